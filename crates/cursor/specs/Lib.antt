@@ -1,0 +1,4 @@
+pub mod Sheet
+pub mod Rule
+pub mod Tokens
+pub mod Answers
