@@ -1,1 +1,2 @@
 pub mod TokenPaths
+pub mod CheckPaths

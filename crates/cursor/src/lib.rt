@@ -1,6 +1,7 @@
 // The parser's state and how its rules end. The buffers that a sheet is read into are the caller's and are lent to each
 // function that needs them, in this order: text, tokens, nodes, errors, expected, live, limits, state, the rest.
 
+pub mod checks;
 pub mod tokens;
 
 // The words of a token: its kind, start and end.

@@ -7,8 +7,6 @@ use Rattle.cursor.proofs.tokens.bump.Reads as reads
 use Rattle.cursor.proofs.tokens.bump.Lts as lts
 use Rattle.cursor.proofs.tokens.past_trivia.Reads as past-trivia-reads
 
-
-
 -- src/tokens.rt:69:9
 returns : tie.Need-returns
 returns c = λ x w. sym (paths.bump-end _ _ w (c .if1 .taken))

@@ -6,8 +6,6 @@ use Rattle.cursor.proofs.tokens.current_range.Tie as tie
 use Rattle.cursor.proofs.tokens.current_range.Reads as reads
 use Rattle.cursor.proofs.tokens.current_range.Lts as lts
 
-
-
 -- src/tokens.rt:40:20
 mul-here : tie.Need-mul-here
 mul-here c = search needs

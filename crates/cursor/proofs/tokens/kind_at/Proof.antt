@@ -6,8 +6,6 @@ use Rattle.cursor.proofs.tokens.kind_at.Tie as tie
 use Rattle.cursor.proofs.tokens.kind_at.Reads as reads
 use Rattle.cursor.proofs.tokens.kind_at.Lts as lts
 
-
-
 -- src/tokens.rt:28:16
 mul-result : tie.Need-mul-result
 mul-result c = search needs

@@ -11,8 +11,6 @@ use Rattle.cursor.proofs.tokens.past_trivia.Reads as reads
 use Rattle.cursor.proofs.tokens.past_trivia.Lts as lts
 use Rattle.cursor.proofs.tokens.kind_at.Reads as kind-at-reads
 
-
-
 abbrev Inv-loop : tie.InvT-loop
 Inv-loop tokens from at₀ at = pastTrivia tokens from ≡ pastTrivia tokens at
 

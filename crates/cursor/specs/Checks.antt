@@ -1,0 +1,67 @@
+-- Tests of what stands here, and the live list of the kinds that were expected.
+use Prim.Native.Nat.{ℕ, zero, suc, _+_}
+use mathlib.Core.List.{List, [], _∷_}
+use mathlib.Core.Bool.{Bool, true, false}
+use lib.ListN.{set}
+use lib.Dec.{ltb, eqb}
+use Rattle.kinds.specs.Number as kind
+use Rattle.cursor.specs.declared.State.{State}
+use Rattle.cursor.specs.declared.Fault.{Fault}
+use Rattle.cursor.specs.declared.Span.{Span}
+use Rattle.cursor.specs.declared.Ranged.{Ranged}
+use Rattle.cursor.specs.declared.Ranged.the-variants as ranged
+use Rattle.cursor.specs.Sheet.{Sheet, kindAt, rangeAt}
+use Rattle.cursor.specs.Rule.{World, Stop, fault, refused, Out, done, failed, Rule, _>>=_, _>>_, give, ifSo, Next, more, stop, Turn, iterate}
+use Rattle.cursor.specs.Tokens.{bump, eatTrivia}
+
+-- one word of a buffer anew; past its end nothing
+unfoldable pub put : List ℕ → ℕ → ℕ → List ℕ
+put xs i a = set xs i a
+
+-- the longest live list
+abbrev pub liveRoom : ℕ
+liveRoom = 1024
+
+-- one more expected kind, repeats kept; 11 where the live list would pass its room
+unfoldable pub want : ℕ → Rule Unit
+want k s w = elim (ltb (s .live) liveRoom) as (λ _. Out Unit) [
+  | true ↦ done (record { at = s .at; prev = s .prev; reads = s .reads; nodes = s .nodes; errors = s .errors; wanted = s .wanted; live = s .live + 1 })
+      (record { nodes = w .nodes; errors = w .errors; expected = w .expected; live = put (w .live) (s .live) k }) tt
+  | false ↦ failed (refused 11)
+]
+
+-- is the current token of this kind? Where not, the kind was expected
+unfoldable pub check : Sheet → ℕ → Rule Bool
+check e k s w = elim (eqb (kindAt (e .tokens) (s .at)) k) as (λ _. Out Bool) [
+  | true ↦ done s w true
+  | false ↦ (do
+    want k
+    give false) s w
+]
+
+-- takes a token of this kind if it stands here
+unfoldable pub eat : Sheet → ℕ → Rule Bool
+eat e k = do
+  here ← check e k
+  ifSo (do
+    bump e
+    give true)
+      (give false) here
+
+-- the range of the current token, or the empty one at the end of the last token read
+abbrev pub foundAt : Ranged → ℕ → Span
+foundAt (ranged.At r) prev = r
+foundAt ranged.Nowhere prev = record { start = prev; end = prev }
+
+-- the error of an unexpected token: the live list is what was expected
+unfoldable pub unexpectedAt : Sheet → State → Fault
+unexpectedAt e s = record { class = 0; found = kindAt (e .tokens) (s .at); span = foundAt (rangeAt (e .tokens) (s .at)) (s .prev); listed = true }
+
+unfoldable pub unexpected : {A : Type 0} → Sheet → Rule A
+unexpected e s w = failed (fault s w (unexpectedAt e s))
+
+-- a token of this kind has to stand here, and is taken
+unfoldable pub expect : Sheet → ℕ → Rule Unit
+expect e k = do
+  here ← eat e k
+  ifSo (give tt) (unexpected e) here
