@@ -8,8 +8,9 @@ use borrow.Author.Tests.{eq-eqb, ne-eqb, lt-ltb, le-ltb}
 use Rattle.cursor.specs.declared.State.{State}
 use Rattle.cursor.specs.Sheet.{Sheet, kindAt}
 use Rattle.cursor.specs.Rule.{World, Stop, refused, Out, done, failed}
+use Rattle.cursor.specs.Buffer.{put}
 use Rattle.cursor.specs.Tokens.{bump}
-use Rattle.cursor.specs.Checks.{put, liveRoom, want, check, eat, unexpectedAt, unexpected, expect}
+use Rattle.cursor.specs.Checks.{liveRoom, want, check, eat, unexpectedAt, unexpected, expect}
 
 -- what a rule answered, from what a function with that rule ensures and what its result is known to be
 pub via : {A B : Type 0} (f : A → World → B) {r v : A} {w : World} {m : B} → f r w ≡ m → r ≡ v → m ≡ f v w

@@ -2,7 +2,6 @@
 use Prim.Native.Nat.{ℕ, zero, suc, _+_}
 use mathlib.Core.List.{List, [], _∷_}
 use mathlib.Core.Bool.{Bool, true, false}
-use lib.ListN.{set}
 use lib.Dec.{ltb, eqb}
 use Rattle.kinds.specs.Number as kind
 use Rattle.cursor.specs.declared.State.{State}
@@ -12,11 +11,8 @@ use Rattle.cursor.specs.declared.Ranged.{Ranged}
 use Rattle.cursor.specs.declared.Ranged.the-variants as ranged
 use Rattle.cursor.specs.Sheet.{Sheet, kindAt, rangeAt}
 use Rattle.cursor.specs.Rule.{World, Stop, fault, refused, Out, done, failed, Rule, _>>=_, _>>_, give, ifSo, Next, more, stop, Turn, iterate}
+use Rattle.cursor.specs.Buffer.{put}
 use Rattle.cursor.specs.Tokens.{bump, eatTrivia}
-
--- one word of a buffer anew; past its end nothing
-unfoldable pub put : List ℕ → ℕ → ℕ → List ℕ
-put xs i a = set xs i a
 
 -- the longest live list
 abbrev pub liveRoom : ℕ

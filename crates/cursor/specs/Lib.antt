@@ -1,5 +1,9 @@
+pub mod Buffer
 pub mod Sheet
 pub mod Rule
 pub mod Tokens
 pub mod Answers
 pub mod Checks
+pub mod Layout
+pub mod Records
+pub mod Tree

@@ -91,3 +91,13 @@ pub struct Kids {
     pub last: u32,
     pub count: u32,
 }
+
+// What a node record says besides its links.
+pub struct Label {
+    pub kind: u32,
+    pub start: u32,
+    pub end: u32,
+    pub one: u32,
+    pub two: u32,
+    pub flags: u32,
+}

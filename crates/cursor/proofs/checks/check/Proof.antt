@@ -1,5 +1,4 @@
 use Rattle.cursor.proofs.CheckPaths as paths
-use Rattle.cursor.specs.Checks.{put}
 use mathlib.Core.Path.{_≡_, sym, _∙_, subst}
 use borrow.Author.Needs.{needs}
 use Rattle.cursor.proofs.checks.check.Statement.{statement}
@@ -7,8 +6,6 @@ use Rattle.cursor.proofs.checks.check.Tie as tie
 use Rattle.cursor.proofs.checks.check.Reads as reads
 use Rattle.cursor.proofs.checks.check.Lts as lts
 use Rattle.cursor.proofs.tokens.current_kind.Reads as current-kind-reads
-
-
 
 -- src/checks.rt:27:8
 current-kind-requires : tie.Need-current-kind-requires

@@ -10,8 +10,6 @@ use Rattle.cursor.proofs.checks.eat.Lts as lts
 use Rattle.cursor.proofs.checks.check.Reads as check-reads
 use Rattle.cursor.proofs.tokens.bump.Reads as bump-reads
 
-
-
 -- src/checks.rt:44:9
 check-requires : tie.Need-check-requires
 check-requires c κs = tt
