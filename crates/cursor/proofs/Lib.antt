@@ -1,2 +1,4 @@
-pub mod TokenPaths
 pub mod CheckPaths
+pub mod Ends
+pub mod Loops
+pub mod TokenPaths
