@@ -37,6 +37,7 @@ infixl 20 _>>=_
 abbrev pub _>>=_ : {A B : Type 0} → Rule A → (A → Rule B) → Rule B
 _>>=_ r k s w = bind (r s w) (λ s1 w1 a. k a s1 w1)
 
+infixl 20 _>>_
 abbrev pub _>>_ : {A B : Type 0} → Rule A → Rule B → Rule B
 _>>_ r k s w = bind (r s w) (λ s1 w1 _. k s1 w1)
 
