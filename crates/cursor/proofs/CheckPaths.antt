@@ -94,7 +94,7 @@ module _ (e : Sheet) (s : State) where
   unfolding unexpectedAt
   unexpected-is p q = rw (p, q)
 
-drop-all : (ks : List ℕ) (i : ℕ) → length ks ≤ i → drop i ks ≡ []
+pub drop-all : (ks : List ℕ) (i : ℕ) → length ks ≤ i → drop i ks ≡ []
 drop-all [] i h = drop-nil i
 drop-all (k ∷ ks) zero h = absurd (omega arith)
 drop-all (k ∷ ks) (suc i) h = drop-all ks i (omega arith)

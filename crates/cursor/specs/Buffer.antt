@@ -1,13 +1,13 @@
 -- Writing into a buffer.
-use Prim.Native.Nat.{ℕ, _+_}
-use mathlib.Core.List.{List, [], _∷_}
-use lib.ListN.{set}
+use Prim.Native.Nat.{ℕ, zero, suc, _+_}
+use mathlib.Core.List.{List}
+use lib.ListN.{set, getD}
 
 -- one word of a buffer anew; past its end nothing. (A name for the library's `set` that stays shut, so that rules can be told apart by it.)
 unfoldable pub put : List ℕ → ℕ → ℕ → List ℕ
 put xs i a = set xs i a
 
--- the values of a list, one after the other from a place on
-unfoldable pub lay : List ℕ → ℕ → List ℕ → List ℕ
-lay xs i [] = xs
-lay xs i (v ∷ vs) = lay (put xs i v) (i + 1) vs
+-- n values of a list, from its place k on, one after the other from place i of a buffer on
+unfoldable pub copy : List ℕ → ℕ → List ℕ → ℕ → ℕ → List ℕ
+copy ys i xs k zero = ys
+copy ys i xs k (suc n) = copy (put ys i (getD xs k 0)) (i + 1) xs (k + 1) n

@@ -38,6 +38,9 @@ cell i k = nodeWords * i + k
 abbrev pub errorWords : ℕ
 errorWords = 6
 
+abbrev pub errorCell : ℕ → ℕ → ℕ
+errorCell i k = errorWords * i + k
+
 -- the most records of each sort, and the most expected kinds that 64 errors can list
 abbrev pub nodeLimit : ℕ
 nodeLimit = 8192

@@ -1,20 +1,25 @@
 -- Records: raw buffers, exactly as the code writes them.
 use Prim.Native.Nat.{ℕ, zero, suc, _+_, _*_, _/_, _%_, _^_, min}
-use mathlib.Core.List.{List, [], _∷_}
+use mathlib.Core.List.{List}
 use mathlib.Core.Bool.{Bool, true, false}
-use lib.ListN.{length, take}
+use lib.ListN.{length}
 use lib.Dec.{ltb, leb}
 use Rattle.cursor.specs.declared.State.{State}
 use Rattle.cursor.specs.declared.Fault.{Fault}
 use Rattle.cursor.specs.declared.Kids.{Kids}
 use Rattle.cursor.specs.declared.Label.{Label}
-use Rattle.cursor.specs.Layout.{nodeWords, KIND, START, END, FIRST, NEXT, ONE, TWO, FLAGS, cell, errorWords, nodeLimit, errorLimit, expectedLimit}
+use Rattle.cursor.specs.Layout.{nodeWords, KIND, START, END, FIRST, NEXT, ONE, TWO, FLAGS, cell, errorWords, errorCell, nodeLimit, errorLimit, expectedLimit}
 use Rattle.cursor.specs.Rule.{World, Stop, fault, refused, Out, done, failed, Rule}
-use Rattle.cursor.specs.Buffer.{put, lay}
+use Rattle.cursor.specs.Buffer.{put, copy}
+use Rattle.cursor.specs.Checks.{liveRoom}
 
 -- what a 32-bit word keeps of a number. No list of a sheet is long enough to show it
 abbrev pub word32 : ℕ → ℕ
 word32 n = n % 2 ^ 32
+
+abbrev pub bit : Bool → ℕ
+bit true = 1
+bit false = 0
 
 -- all eight words of record n, with no next link
 unfoldable pub write : List ℕ → ℕ → Label → ℕ → List ℕ
@@ -48,24 +53,28 @@ unfoldable pub reflag : ℕ → ℕ → Rule Unit
 reflag zero flags s w = done s w tt
 reflag (suc i) flags s w = done s (withNodes w (put (w .nodes) (cell i FLAGS) flags)) tt
 
--- the kinds that an error lists: the live list, where it is the error's
-abbrev pub listing : Fault → State → World → List ℕ
-listing f s w = elim (f .listed) as (λ _. List ℕ) [ true ↦ take (s .live) (w .live) | false ↦ [] ]
+-- a flags word: the lengths of two lists, of 15 bits each, and two flags
+abbrev pub flagged : ℕ → ℕ → Bool → Bool → ℕ
+flagged n m one two = word32 (n + 2 ^ 15 * m + 2 ^ 30 * bit one + 2 ^ 31 * bit two)
 
--- an error record, with its kinds in the expected buffer
-unfoldable pub logged : Fault → List ℕ → State → World → World
-logged f kinds s w = record {
-  nodes = w .nodes;
-  errors = lay (w .errors) (errorWords * s .errors) (f .class ∷ f .found ∷ f .span .start ∷ f .span .end ∷ s .wanted ∷ length kinds ∷ []);
-  expected = lay (w .expected) (s .wanted) kinds;
-  live = w .live;
-}
+-- how many kinds an error lists: the live list's, where it is the error's own
+abbrev pub listLength : Fault → State → ℕ
+listLength f s = elim (f .listed) as (λ _. ℕ) [ true ↦ min (s .live) liveRoom | false ↦ 0 ]
+
+-- all six words of error record i, whose n expected kinds start at a place of the expected buffer
+unfoldable pub writeError : List ℕ → ℕ → Fault → ℕ → ℕ → List ℕ
+writeError xs i f from n =
+    put (put (put (put (put (put xs (errorCell i 0) (f .class)) (errorCell i 1) (f .found)) (errorCell i 2) (f .span .start)) (errorCell i 3) (f .span .end)) (errorCell i 4) from) (errorCell i 5) n
+
+-- an error record, with so many kinds of the live list in the expected buffer
+abbrev pub logged : Fault → ℕ → State → World → World
+logged f n s w = record { nodes = w .nodes; errors = writeError (w .errors) (s .errors) f (s .wanted) n; expected = copy (w .expected) (s .wanted) (w .live) 0 n; live = w .live }
 
 -- logs an error. 8 where there is no room for its record, the whole records that fit, at most 64, or for its kinds
 unfoldable pub log : Fault → Rule Unit
 log f s w = elim (ltb (s .errors) (min (length (w .errors) / errorWords) errorLimit)) as (λ _. Out Unit) [
-  | true ↦ elim (leb (s .wanted + length (listing f s w)) (min (length (w .expected)) expectedLimit)) as (λ _. Out Unit) [
-    | true ↦ done (record { at = s .at; prev = s .prev; reads = s .reads; nodes = s .nodes; errors = s .errors + 1; wanted = s .wanted + length (listing f s w); live = s .live }) (logged f (listing f s w) s w) tt
+  | true ↦ elim (leb (s .wanted + listLength f s) (min (length (w .expected)) expectedLimit)) as (λ _. Out Unit) [
+    | true ↦ done (record { at = s .at; prev = s .prev; reads = s .reads; nodes = s .nodes; errors = s .errors + 1; wanted = s .wanted + listLength f s; live = s .live }) (logged f (listLength f s) s w) tt
     | false ↦ failed (refused 8)
   ]
   | false ↦ failed (refused 8)

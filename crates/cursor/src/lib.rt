@@ -2,6 +2,7 @@
 // function that needs them, in this order: text, tokens, nodes, errors, expected, live, limits, state, the rest.
 
 pub mod checks;
+pub mod records;
 pub mod tokens;
 
 // The words of a token: its kind, start and end.
