@@ -4,3 +4,6 @@ pub mod Finished
 pub mod Writes
 pub mod Laws
 pub mod Meaning
+pub mod Stack
+pub mod Grows
+pub mod Stacked
