@@ -4,6 +4,8 @@ pub mod Finished
 pub mod Writes
 pub mod Laws
 pub mod Meaning
+pub mod Once
 pub mod Stack
 pub mod Grows
 pub mod Stacked
+pub mod Example

@@ -1,14 +1,11 @@
--- What a finished tree means: the very tree that it was built as, and each of its records belongs to it exactly once.
+-- What a finished tree means: the very tree that it was built as, with as many records as it took.
 use mathlib.Core.Path.{_≡_, refl, sym, ap, _∙_}
-use mathlib.Core.Bool.{Bool, true, false}
 use mathlib.Core.List.{List}
-use Prim.Native.Nat.{ℕ, zero, suc, _+_, _-_, _*_, _<_, _≤_}
+use Prim.Native.Nat.{ℕ, zero, suc, _+_, _-_, _<_, _≤_}
 use native.Mathlib.Omega.{arith}
 use lib.ListN.{length}
-use lib.Dec.{ltb, eqb}
-use borrow.Author.Tests.{eqb-true, eqb-false, ltb-true, ltb-false, lt-ltb, le-ltb}
 use Rattle.cursor.specs.declared.Label.{Label}
-use Rattle.cursor.specs.Layout.{nodeWords, FIRST, NEXT, cell}
+use Rattle.cursor.specs.Layout.{FIRST, NEXT}
 use Rattle.cursor.specs.Tree.{Trees, none, node, join, tree, size, word, label, trees, meaning}
 use Rattle.cursor.proofs.Finished.{after, Built, built, Row, nil, snoc, built-in, built-label, row-le}
 use Rattle.cursor.proofs.Laws.{join-none, join-assoc}

@@ -14,6 +14,7 @@ use Rattle.cursor.specs.Tree.{Trees, none, node, join, tree, size, word,
 use Rattle.cursor.proofs.Finished.{after, Built, Row, built-in, built-label, built-keep, row-le, row-end, row-keep, Agree, agree-below}
 use Rattle.cursor.proofs.Writes.{put-length, put-below, write-agree, write-length}
 use Rattle.cursor.proofs.Meaning.{built-meaning, built-size, row-meaning, row-size}
+use Rattle.cursor.proofs.Once.{uses, built-once}
 
 -- what one entry is, lo being the count when it was begun: a finished tree, with the links to its root and to its last child; a row under
 -- construction, with the links to its first and its last child; or what a buffer held below the count
@@ -65,7 +66,7 @@ top (push-whole {root = root} s b z r) = record { root = root; is = refl; tree-o
 pub link-some : {xs : List ℕ} {lo hi link last : ℕ} {l : Label} {ks : Trees} {es : List Entry} → Stack xs hi (whole lo link last l ks ∷ es) → 0 < link
 link-some (push-whole s b z r) = omega arith
 
--- its record's label, its meaning, and that it has each record from lo up to the count
+-- its record's label, its meaning, and that each record from lo up to the count belongs to it, exactly once
 pub whole-label : {xs : List ℕ} {lo hi i last : ℕ} {l : Label} {ks : Trees} {es : List Entry} → Stack xs hi (whole lo (suc i) last l ks ∷ es) → label xs i ≡ l
 whole-label (push-whole s b z r) = built-label b
 
@@ -75,6 +76,9 @@ whole-meaning (push-whole s b z r) = built-meaning b (omega arith)
 pub whole-size : {xs : List ℕ} {lo hi link last : ℕ} {l : Label} {ks : Trees} {es : List Entry} → Stack xs hi (whole lo link last l ks ∷ es) → hi ≡ lo + size (tree l ks)
 unfolding size
 whole-size (push-whole s b z r) = let h = built-size b in omega arith
+
+pub whole-once : {xs : List ℕ} {lo hi i last : ℕ} {l : Label} {ks : Trees} {es : List Entry} → Stack xs hi (whole lo (suc i) last l ks ∷ es) → (j : ℕ) → lo ≤ j → j < hi → uses xs i j ≡ 1
+whole-once (push-whole s b z r) j p q = built-once b (omega arith) j p q
 
 -- the same of a row
 pub row-trees : {xs : List ℕ} {lo hi first last : ℕ} {ts : Trees} {es : List Entry} → Stack xs hi (row lo first last ts ∷ es) → (j : ℕ) → hi < lo + j → trees j xs first ≡ ts

@@ -1,13 +1,12 @@
 -- The rules on records over the stack: from the stack before, how the rule ends and the stack after.
-use mathlib.Core.Path.{_≡_, refl, sym, _∙_, subst}
-use mathlib.Core.Bool.{Bool, true, false}
+use mathlib.Core.Path.{_≡_, refl, sym, subst}
 use mathlib.Core.List.{List, [], _∷_}
 use Prim.Native.Nat.{ℕ, zero, suc, _+_, _*_, _/_, _<_, _≤_, min}
 use native.Mathlib.Omega.{arith}
+use native.Mathlib.Decide.{decLt}
 use native.Mathlib.Numerals.{add-one}
 use lib.ListN.{length}
-use lib.Dec.{ltb}
-use borrow.Author.Tests.{lt-ltb, le-ltb, ltb-true}
+use borrow.Author.Tests.{lt-ltb, le-ltb}
 use Rattle.cursor.specs.declared.State.{State}
 use Rattle.cursor.specs.declared.Kids.{Kids}
 use Rattle.cursor.specs.declared.Label.{Label}
@@ -49,16 +48,29 @@ module _ (l : Label) (first : ℕ) (s : State) (w : World) where
     stack = subst (λ n. Stack (withRecord .nodes) n (whole lo n last l ks ∷ es)) (sym (add-one (s .nodes))) (wrap l st (omega arith));
   }
 
+  -- the two ends of a record over a row, by the room that there is
+  pub data Appends (lo last : ℕ) (ks : Trees) (es : List Entry) : Out ℕ → Type 0 where
+    full : Appends lo last ks es (failed (refused 7))
+    fits : Stack (withRecord .nodes) (s .nodes + 1) (whole lo (s .nodes + 1) last l ks ∷ es) → Appends lo last ks es (done (counted s) withRecord (s .nodes + 1))
+
+  pub append-ends : {lo last : ℕ} {ks : Trees} {es : List Entry} → Stack (w .nodes) (s .nodes) (row lo first last ks ∷ es) → Appends lo last ks es (append l first s w)
+  append-ends {lo} {last} {ks} {es} st = by (decLt (s .nodes) (roomFor w))
+    where
+      by : Dec (s .nodes < roomFor w) → Appends lo last ks es (append l first s w)
+      by (yes h) = let x = append-stack st h in rw (x .is) (fits (x .stack))
+      by (no h) = rw (append-full (omega arith)) full
+
 -- the buffer, and the row, with one more child that a link leads to
 abbrev pub linked : List ℕ → ℕ → ℕ → List ℕ
 linked xs zero link = xs
 linked xs (suc i) link = put xs (cell i NEXT) link
 
-abbrev pub firstOf : Kids → ℕ → ℕ
-firstOf k link = elim (k .last) as (λ _. ℕ) [ zero ↦ link | suc i ↦ k .first ]
+abbrev pub firstOf : ℕ → ℕ → ℕ → ℕ
+firstOf zero first link = link
+firstOf (suc i) first link = first
 
 abbrev pub added : Kids → ℕ → Kids
-added k link = record { first = firstOf k link; last = link; count = word32 (k .count + 1) }
+added k link = record { first = firstOf (k .last) (k .first) link; last = link; count = word32 (k .count + 1) }
 
 module _ (k : Kids) (link : ℕ) (s : State) (w : World) where
   pub add-is : add k link s w ≡ done s (withNodes w (linked (w .nodes) (k .last) link)) (added k link)
@@ -71,10 +83,10 @@ module _ (k : Kids) (link : ℕ) (s : State) (w : World) where
 
   -- one more in a row
   pub add-stack : {lo mid last : ℕ} {l : Label} {ts ks : Trees} {es : List Entry} → Stack (w .nodes) (s .nodes) (whole mid link last l ks ∷ row lo (k .first) (k .last) ts ∷ es)
-      → Leaves (add k link s w) s (withNodes w (linked (w .nodes) (k .last) link)) (added k link) (row lo (firstOf k link) link (join ts (tree l ks)) ∷ es)
+      → Leaves (add k link s w) s (withNodes w (linked (w .nodes) (k .last) link)) (added k link) (row lo (added k link .first) link (join ts (tree l ks)) ∷ es)
   add-stack {lo} {mid} {last} {l} {ts} {ks} {es} st = record { is = add-is; stack = go (k .last) st }
     where
-      go : (n : ℕ) → Stack (w .nodes) (s .nodes) (whole mid link last l ks ∷ row lo (k .first) n ts ∷ es) → Stack (linked (w .nodes) n link) (s .nodes) (row lo (elim n as (λ _. ℕ) [ zero ↦ link | suc i ↦ k .first ]) link (join ts (tree l ks)) ∷ es)
+      go : (n : ℕ) → Stack (w .nodes) (s .nodes) (whole mid link last l ks ∷ row lo (k .first) n ts ∷ es) → Stack (linked (w .nodes) n link) (s .nodes) (row lo (firstOf n (k .first) link) link (join ts (tree l ks)) ∷ es)
       go zero x = link-first x
       go (suc n) x = link-next x
 
