@@ -2,15 +2,23 @@
 use mathlib.Core.Path.{_≡_, refl, sym, ap, _∙_}
 use mathlib.Core.Bool.{Bool, true, false}
 use mathlib.Core.List.{List}
-use lib.ListN.{set}
-use Prim.Native.Nat.{ℕ, _+_, _<_, _≤_}
+use lib.ListN.{set, length, drop, getD}
+use lib.Seq.{drop-cons, drop-nil}
+use native.Mathlib.Omega.{arith}
+use native.Mathlib.Numerals.{add-one}
+use mathlib.Core.List.{[], _∷_}
+use Prim.Native.Nat.{ℕ, zero, suc, _+_, _<_, _≤_}
 use borrow.Author.Tests.{eq-eqb, ne-eqb, lt-ltb, le-ltb}
 use Rattle.cursor.specs.declared.State.{State}
-use Rattle.cursor.specs.Sheet.{Sheet, kindAt}
-use Rattle.cursor.specs.Rule.{World, Stop, refused, Out, done, failed}
+use Rattle.cursor.specs.declared.Fault.{Fault}
+use Rattle.cursor.specs.declared.Span.{Span}
+use Rattle.cursor.specs.declared.Ranged.{Ranged}
+use Rattle.cursor.specs.declared.Ranged.the-variants as ranged
+use Rattle.cursor.specs.Sheet.{Sheet, kindAt, rangeAt}
+use Rattle.cursor.specs.Rule.{World, Stop, fault, refused, Out, done, failed}
 use Rattle.cursor.specs.Buffer.{put}
 use Rattle.cursor.specs.Tokens.{bump}
-use Rattle.cursor.specs.Checks.{liveRoom, want, check, eat, unexpectedAt, unexpected, expect}
+use Rattle.cursor.specs.Checks.{liveRoom, want, check, eat, unexpectedAt, unexpected, expect, eatRange, pickFrom, pick, foundAt}
 
 -- what a rule answered, from what a function with that rule ensures and what its result is known to be
 pub via : {A B : Type 0} (f : A → World → B) {r v : A} {w : World} {m : B} → f r w ≡ m → r ≡ v → m ≡ f v w
@@ -50,3 +58,62 @@ module _ (e : Sheet) (k : ℕ) (s : State) (w : World) where
   pub eat-yes : {s1 s2 : State} {w1 w2 : World} → check e k s w ≡ done s1 w1 true → bump e s1 w1 ≡ done s2 w2 tt → eat e k s w ≡ done s2 w2 true
   unfolding eat
   eat-yes p q = rw p (rw q)
+
+  module _ {x : Stop} where
+    pub expect-failed : eat e k s w ≡ failed x → expect e k s w ≡ failed x
+    unfolding expect
+    expect-failed p = rw p
+
+    pub range-failed : check e k s w ≡ failed x → eatRange e k s w ≡ failed x
+    unfolding eatRange
+    range-failed p = rw p
+
+    pub range-spent : {s1 : State} {w1 : World} → check e k s w ≡ done s1 w1 true → bump e s1 w1 ≡ failed x → eatRange e k s w ≡ failed x
+    unfolding eatRange
+    range-spent p q = rw p (rw q)
+
+  pub expect-yes : {s1 : State} {w1 : World} → eat e k s w ≡ done s1 w1 true → expect e k s w ≡ done s1 w1 tt
+  unfolding expect
+  expect-yes p = rw p
+
+  pub expect-no : {s1 : State} {w1 : World} {f : Fault} → eat e k s w ≡ done s1 w1 false → f ≡ unexpectedAt e s1 → expect e k s w ≡ failed (fault s1 w1 f)
+  unfolding expect unexpected
+  expect-no p q = rw p (rw q)
+
+  pub range-no : {s1 : State} {w1 : World} → check e k s w ≡ done s1 w1 false → eatRange e k s w ≡ done s1 w1 ranged.Nowhere
+  unfolding eatRange
+  range-no p = rw p
+
+  pub range-yes : {s1 s2 : State} {w1 w2 : World} {r : Ranged} → check e k s w ≡ done s1 w1 true → bump e s1 w1 ≡ done s2 w2 tt → rangeAt (e .tokens) (s .at) ≡ r → eatRange e k s w ≡ done s2 w2 r
+  unfolding eatRange
+  range-yes p q r = rw p (rw (q, r))
+
+-- the error of an unexpected token, from the kind and the range of the current one
+module _ (e : Sheet) (s : State) where
+  pub unexpected-is : {found : ℕ} {r : Ranged} → found ≡ kindAt (e .tokens) (s .at) → rangeAt (e .tokens) (s .at) ≡ r → unexpectedAt e s ≡ record { class = 0; found = found; span = foundAt r (s .prev); listed = true }
+  unfolding unexpectedAt
+  unexpected-is p q = rw (p, q)
+
+drop-all : (ks : List ℕ) (i : ℕ) → length ks ≤ i → drop i ks ≡ []
+drop-all [] i h = drop-nil i
+drop-all (k ∷ ks) zero h = absurd (omega arith)
+drop-all (k ∷ ks) (suc i) h = drop-all ks i (omega arith)
+
+-- a chain of checks, at its place i
+module _ (e : Sheet) (ks : List ℕ) (i : ℕ) (s : State) (w : World) where
+  pub pick-end : length ks ≤ i → pickFrom e (drop i ks) i s w ≡ done s w i
+  unfolding pickFrom
+  pick-end p = rw (drop-all ks i p)
+
+  module _ (p : i < length ks) where
+    pub pick-here : kindAt (e .tokens) (s .at) ≡ getD ks i 0 → pickFrom e (drop i ks) i s w ≡ done s w i
+    unfolding pickFrom
+    pick-here q = rw (drop-cons ks i 0 p) (rw (check-yes e _ s w q))
+
+    pub pick-full : (kindAt (e .tokens) (s .at) ≡ getD ks i 0 → ⊥) → liveRoom ≤ s .live → pickFrom e (drop i ks) i s w ≡ failed (refused 11)
+    unfolding pickFrom
+    pick-full q r = rw (drop-cons ks i 0 p) (rw (check-full e _ s w q r))
+
+    pub pick-on : {l : List ℕ} → (kindAt (e .tokens) (s .at) ≡ getD ks i 0 → ⊥) → s .live < liveRoom → l ≡ put (w .live) (s .live) (getD ks i 0) → pickFrom e (drop i ks) i s w ≡ pickFrom e (drop (i + 1) ks) (i + 1) (record { at = s .at; prev = s .prev; reads = s .reads; nodes = s .nodes; errors = s .errors; wanted = s .wanted; live = s .live + 1 }) (record { nodes = w .nodes; errors = w .errors; expected = w .expected; live = l })
+    unfolding pickFrom
+    pick-on q r t = rw (drop-cons ks i 0 p) (rw (check-no e _ s w q r t, add-one i))

@@ -1,5 +1,7 @@
-pub mod TokenPaths
 pub mod CheckPaths
+pub mod Ends
+pub mod Loops
+pub mod TokenPaths
 pub mod Finished
 pub mod Writes
 pub mod Laws
@@ -8,4 +10,5 @@ pub mod Once
 pub mod Stack
 pub mod Grows
 pub mod Stacked
+pub mod Building
 pub mod Example

@@ -3,7 +3,6 @@ use mathlib.Core.Path.{_≡_, refl, sym, subst}
 use mathlib.Core.List.{List, [], _∷_}
 use Prim.Native.Nat.{ℕ, zero, suc, _+_, _*_, _/_, _<_, _≤_, min}
 use native.Mathlib.Omega.{arith}
-use native.Mathlib.Decide.{decLt}
 use native.Mathlib.Numerals.{add-one}
 use lib.ListN.{length}
 use borrow.Author.Tests.{lt-ltb, le-ltb}
@@ -47,18 +46,6 @@ module _ (l : Label) (first : ℕ) (s : State) (w : World) where
     is = rw (lt-ltb _ _ h, append);
     stack = subst (λ n. Stack (withRecord .nodes) n (whole lo n last l ks ∷ es)) (sym (add-one (s .nodes))) (wrap l st (omega arith));
   }
-
-  -- the two ends of a record over a row, by the room that there is
-  pub data Appends (lo last : ℕ) (ks : Trees) (es : List Entry) : Out ℕ → Type 0 where
-    full : Appends lo last ks es (failed (refused 7))
-    fits : Stack (withRecord .nodes) (s .nodes + 1) (whole lo (s .nodes + 1) last l ks ∷ es) → Appends lo last ks es (done (counted s) withRecord (s .nodes + 1))
-
-  pub append-ends : {lo last : ℕ} {ks : Trees} {es : List Entry} → Stack (w .nodes) (s .nodes) (row lo first last ks ∷ es) → Appends lo last ks es (append l first s w)
-  append-ends {lo} {last} {ks} {es} st = by (decLt (s .nodes) (roomFor w))
-    where
-      by : Dec (s .nodes < roomFor w) → Appends lo last ks es (append l first s w)
-      by (yes h) = let x = append-stack st h in rw (x .is) (fits (x .stack))
-      by (no h) = rw (append-full (omega arith)) full
 
 -- the buffer, and the row, with one more child that a link leads to
 abbrev pub linked : List ℕ → ℕ → ℕ → List ℕ

@@ -6,13 +6,17 @@ use Prim.Native.Nat.{ℕ, zero, suc, _+_, _-_, _*_, _/_, _<_, _≤_}
 use native.Mathlib.Omega.{arith}
 use native.Mathlib.Decide.{decLt}
 use lib.ListN.{length, getD}
-use borrow.Author.Tests.{eq-eqb, ne-eqb, lt-ltb, le-ltb}
+use lib.Dec.{ltb, eqb}
+use native.Mathlib.Nat.{min-eq-left, min-eq-right, le-of-lt}
+use borrow.Author.Tests.{eq-eqb, ne-eqb, lt-ltb, le-ltb, eqb-true, eqb-false, ltb-false}
 use Rattle.kinds.specs.Number as kind
 use Rattle.cursor.specs.declared.State.{State}
 use Rattle.cursor.specs.declared.Ranged.the-variants as ranged
 use Rattle.cursor.specs.Sheet.{Sheet, count, kindAt, rangeAt}
-use Rattle.cursor.specs.Rule.{World, done, failed, refused}
-use Rattle.cursor.specs.Tokens.{trivia, pastFrom, pastTrivia, startOf, endOf, bump}
+use Rattle.cursor.specs.Rule.{World, Stop, done, failed, refused, more, stop, iterate}
+use Rattle.cursor.specs.Tokens.{trivia, pastFrom, pastTrivia, startOf, endOf, eatTrivia, bump, eolTurn, eatEol, rewind}
+use Rattle.cursor.proofs.Ends.{Ends, well, cut, Any, branch, then}
+use Rattle.cursor.proofs.Loops.{left, Goes, on, off, Takes}
 
 pub kind-in : (ts : List ℕ) (i : ℕ) → i < length ts / 3 → kindAt ts i ≡ getD ts (i * 3) 0
 unfolding kindAt count
@@ -74,3 +78,62 @@ module _ (e : Sheet) (s : State) (w : World) where
   pub bump-on : {i : ℕ} → s .at < length (e .tokens) / 3 → s .reads < e .limits .allowance → i ≡ pastTrivia (e .tokens) (s .at + 1) → bump e s w ≡ done (record { at = i; prev = getD (e .tokens) (s .at * 3 + 2) 0; reads = s .reads + 1; nodes = s .nodes; errors = s .errors; wanted = s .wanted; live = 0 }) w tt
   unfolding bump count
   bump-on p q r = rw (lt-ltb _ _ p, bump) (rw (lt-ltb _ _ q, range-in _ _ p, r))
+
+  pub eat-trivia-on : {i : ℕ} → i ≡ pastTrivia (e .tokens) (s .at) → eatTrivia e s w ≡ done (record { at = i; prev = s .prev; reads = s .reads; nodes = s .nodes; errors = s .errors; wanted = s .wanted; live = s .live }) w tt
+  unfolding eatTrivia
+  eat-trivia-on p = rw (p, eatTrivia)
+
+  pub eol-on : {s1 : State} {w1 : World} → kindAt (e .tokens) (s .at) ≡ kind.Eol → bump e s w ≡ done s1 w1 tt → eolTurn e tt s w ≡ done s1 w1 (more tt)
+  unfolding eolTurn
+  eol-on p q = rw (eq-eqb _ _ p, eolTurn) (rw q)
+
+  pub eol-spent : {x : Stop} → kindAt (e .tokens) (s .at) ≡ kind.Eol → bump e s w ≡ failed x → eolTurn e tt s w ≡ failed x
+  unfolding eolTurn
+  eol-spent p q = rw (eq-eqb _ _ p, eolTurn) (rw q)
+
+  pub eol-off : (kindAt (e .tokens) (s .at) ≡ kind.Eol → ⊥) → eolTurn e tt s w ≡ done s w (stop tt)
+  unfolding eolTurn
+  eol-off p = rw (ne-eqb _ _ p, eolTurn)
+
+  pub eat-eol-on : {s1 : State} {w1 : World} → eatTrivia e s w ≡ done s1 w1 tt → eatEol e s w ≡ iterate e (eolTurn e) tt s1 w1
+  unfolding eatEol
+  eat-eol-on p = rw p
+
+-- trivia are passed forward
+past-from-ge : (ts : List ℕ) (k i : ℕ) → i ≤ pastFrom ts k i
+unfolding pastFrom
+past-from-ge ts zero i = omega arith
+past-from-ge ts (suc k) i = by (ltb (kindAt ts i) kind.Ident) (past-from-ge ts k (i + 1))
+  where
+    by : (b : Bool) → i + 1 ≤ pastFrom ts k (i + 1) → i ≤ elim b as (λ _. ℕ) [ true ↦ pastFrom ts k (i + 1) | false ↦ i ]
+    by true h = omega arith
+    by false h = omega arith
+
+pub past-ge : (ts : List ℕ) (i : ℕ) → i ≤ pastTrivia ts i
+unfolding pastTrivia
+past-ge ts i = past-from-ge ts _ i
+
+module _ (e : Sheet) where
+  -- a bump over a token leaves fewer
+  pub bump-takes : (s : State) (w : World) → s .at < length (e .tokens) / 3 → Ends (λ s1 _ _. left e s1 < left e s) Any (bump e s w)
+  unfolding bump count
+  bump-takes s w h =
+      branch (ltb (s .at) (length (e .tokens) / 3))
+      (λ _. branch (ltb (s .reads) (e .limits .allowance)) (λ _. well (omega (arith, past-ge (e .tokens) (s .at + 1)))) (λ _. cut))
+      (λ q. absurd (omega (arith, ltb-false (s .at) (length (e .tokens) / 3) q)))
+
+  pub eol-takes : Takes e (eolTurn e)
+  unfolding eolTurn
+  eol-takes s w tt _ =
+      branch (eqb (kindAt (e .tokens) (s .at)) kind.Eol)
+      (λ p. then (bump-takes s w (there (e .tokens) (s .at) (λ q. eqb-false kind.Eol kind.Eof refl (sym (eqb-true _ _ p) ∙ q)))) (λ _ _ _ _. tt) (λ s1 w1 _ r. well (on tt r)))
+      (λ _. well (off tt))
+
+module _ (mark s : State) where
+  pub rewind-cut : s .live < mark .live → rewind mark s ≡ record { at = mark .at; prev = mark .prev; reads = s .reads; nodes = mark .nodes; errors = mark .errors; wanted = mark .wanted; live = s .live }
+  unfolding rewind
+  rewind-cut p = rw (min-eq-right (le-of-lt p))
+
+  pub rewind-left : mark .live ≤ s .live → rewind mark s ≡ record { at = mark .at; prev = mark .prev; reads = s .reads; nodes = mark .nodes; errors = mark .errors; wanted = mark .wanted; live = mark .live }
+  unfolding rewind
+  rewind-left p = rw (min-eq-left p)

@@ -61,3 +61,22 @@ unfoldable pub expect : Sheet → ℕ → Rule Unit
 expect e k = do
   here ← eat e k
   ifSo (give tt) (unexpected e) here
+
+-- takes a token of this kind if it stands here, and answers its range
+unfoldable pub eatRange : Sheet → ℕ → Rule Ranged
+eatRange e k s w = (do
+  here ← check e k
+  ifSo (do
+    bump e
+    give (rangeAt (e .tokens) (s .at)))
+      (give ranged.Nowhere) here) s w
+
+-- a chain of checks: the place of the first kind that stands here, from i on; where none does, the chain's length
+unfoldable pub pickFrom : Sheet → List ℕ → ℕ → Rule ℕ
+pickFrom e [] i = give i
+pickFrom e (k ∷ ks) i = do
+  here ← check e k
+  ifSo (give i) (pickFrom e ks (i + 1)) here
+
+abbrev pub pick : Sheet → List ℕ → Rule ℕ
+pick e ks = pickFrom e ks 0

@@ -7,3 +7,4 @@ pub mod Checks
 pub mod Layout
 pub mod Records
 pub mod Tree
+pub mod Attempts

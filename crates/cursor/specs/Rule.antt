@@ -37,6 +37,7 @@ infixl 20 _>>=_
 abbrev pub _>>=_ : {A B : Type 0} → Rule A → (A → Rule B) → Rule B
 _>>=_ r k s w = bind (r s w) (λ s1 w1 a. k a s1 w1)
 
+infixl 20 _>>_
 abbrev pub _>>_ : {A B : Type 0} → Rule A → Rule B → Rule B
 _>>_ r k s w = bind (r s w) (λ s1 w1 _. k s1 w1)
 
@@ -51,6 +52,12 @@ refuse n s w = failed (refused n)
 -- the one rule or the other
 abbrev pub ifSo : {A : Type 0} → Rule A → Rule A → Bool → Rule A
 ifSo r q b s w = elim b as (λ _. Out _) [ true ↦ r s w | false ↦ q s w ]
+
+-- what goes on from a rule, and what from its fault
+abbrev pub orElse : {A B : Type 0} → Out A → (State → World → A → Out B) → (State → World → Fault → Out B) → Out B
+orElse (done s w a) k back = k s w a
+orElse (failed (fault s w f)) k back = back s w f
+orElse (failed (refused n)) k back = failed (refused n)
 
 -- what a turn of a loop answers: go on, or stop
 pub data Next (A : Type 0) : Type 0 where

@@ -49,3 +49,27 @@ bump e s w = elim (ltb (s .at) (count (e .tokens))) as (λ _. Out Unit) [
   ]
   | false ↦ done (record { at = s .at; prev = s .prev; reads = s .reads; nodes = s .nodes; errors = s .errors; wanted = s .wanted; live = 0 }) w tt
 ]
+
+-- takes an Eol, if one stands here; it is not an expected kind where none does
+unfoldable pub eolTurn : Sheet → Turn Unit
+eolTurn e a s w = elim (eqb (kindAt (e .tokens) (s .at)) kind.Eol) as (λ _. Out (Next Unit)) [
+  | true ↦ (do
+    bump e
+    give (more tt)) s w
+  | false ↦ done s w (stop tt)
+]
+
+-- past all Eols here, and the trivia before and between them
+unfoldable pub eatEol : Sheet → Rule Unit
+eatEol e = do
+  eatTrivia e
+  iterate e (eolTurn e) tt
+
+-- from a start to the end of the last token read
+abbrev pub endRange : State → ℕ → Span
+endRange s start = record { start = start; end = s .prev }
+
+-- back to a mark: the place, the end before it and all that was built or logged since; the live list is cut to its old length where it
+-- is longer, so that what was put there since can survive; the readings stay
+unfoldable pub rewind : State → State → State
+rewind mark s = record { at = mark .at; prev = mark .prev; reads = s .reads; nodes = mark .nodes; errors = mark .errors; wanted = mark .wanted; live = min (mark .live) (s .live) }

@@ -5,13 +5,15 @@ ghost use Prim.Native.Nat.{ℕ};
 ghost use Rattle.cursor.specs.declared.Limits.{Limits};
 ghost use Rattle.cursor.specs.Sheet.{sheet};
 ghost use Rattle.cursor.specs.Rule.{world};
-ghost use Rattle.cursor.specs.Checks.{check, eat, expect, unexpectedAt};
-ghost use Rattle.cursor.specs.Answers.{asMoved, asTest};
+ghost use Rattle.cursor.specs.Checks.{check, eat, expect, eatRange, pick, unexpectedAt};
+ghost use Rattle.cursor.specs.Answers.{asMoved, asTest, asEaten, asPicked};
+use crate::Eaten;
 use crate::Failure;
 use crate::Fault;
 use crate::LIVE_ROOM;
 use crate::Limits;
 use crate::Moved;
+use crate::Picked;
 use crate::Ranged;
 use crate::Span;
 use crate::State;
@@ -52,4 +54,82 @@ pub fn eat(tokens: &[u32], live: &mut [u8; 1024], limits: Limits, s: State, kind
         Moved::On(t) => Test::Yes(t),
         Moved::Failed(f) => Test::Failed(f),
     }
+}
+
+// The error of an unexpected token; at the end of input, Eof with an empty range at the end of the last token read.
+pub fn unexpected(tokens: &[u32], s: State) -> Fault
+    ensures { λ r. ⌜ ((x : List ℕ) (l : Limits) → r ≡ unexpectedAt (sheet x (now (tokens .entry)) l) s) ⌝ }
+{
+    let found = current_kind(tokens, s);
+    let here = current_range(tokens, s);
+    let span = match here {
+        Ranged::At(r) => r,
+        Ranged::Nowhere => Span {
+            start: s.prev,
+            end: s.prev,
+        },
+    };
+    Fault {
+        class: 0,
+        found,
+        span,
+        listed: true,
+    }
+}
+
+// A token of this kind has to stand here, and is taken.
+pub fn expect(tokens: &[u32], live: &mut [u8; 1024], limits: Limits, s: State, kind: u8) -> Moved
+    ensures { λ r. ⌜ ((x n e y : List ℕ) → asMoved r (world n e y (now (live .exit))) ≡ expect (sheet x (now (tokens .entry)) limits) kind s (world n e y (now (live .entry)))) ⌝ }
+{
+    let here = eat(tokens, live, limits, s, kind);
+    match here {
+        Test::Yes(t) => Moved::On(t),
+        Test::No(t) => Moved::Failed(Failure::Fault(t, unexpected(tokens, t))),
+        Test::Failed(f) => Moved::Failed(f),
+    }
+}
+
+// Takes a token of this kind if it stands here, and answers its range.
+pub fn eat_range(tokens: &[u32], live: &mut [u8; 1024], limits: Limits, s: State, kind: u8) -> Eaten
+    ensures { λ r. ⌜ ((x n e y : List ℕ) → asEaten r (world n e y (now (live .exit))) ≡ eatRange (sheet x (now (tokens .entry)) limits) kind s (world n e y (now (live .entry)))) ⌝ }
+{
+    let here = check(tokens, live, s, kind);
+    let s1 = match here {
+        Test::Yes(t) => t,
+        Test::No(t) => return Eaten::No(t),
+        Test::Failed(f) => return Eaten::Failed(f),
+    };
+    let range = current_range(tokens, s);
+    let taken = bump(tokens, limits, s1);
+    let s2 = match taken {
+        Moved::On(t) => t,
+        Moved::Failed(f) => return Eaten::Failed(f),
+    };
+    match range {
+        Ranged::At(r) => Eaten::At(s2, r),
+        Ranged::Nowhere => Eaten::No(s2),
+    }
+}
+
+// A chain of checks: the place of the first kind that stands here; where none does, the chain's length.
+pub fn pick(tokens: &[u32], live: &mut [u8; 1024], s: State, chain: &[u8]) -> Picked
+    ensures { λ r. ⌜ ((x : List ℕ) (l : Limits) (n e y : List ℕ) → asPicked r (world n e y (now (live .exit))) ≡ pick (sheet x (now (tokens .entry)) l) (now (chain .entry)) s (world n e y (now (live .entry)))) ⌝ }
+{
+    let found = current_kind(tokens, s);
+    let mut t = s;
+    let mut i = 0;
+    while i < chain.len() {
+        let kind = chain[i];
+        if found == kind as u32 {
+            return Picked::Case(t, i);
+        }
+        let told = t.live;
+        if LIVE_ROOM <= told {
+            return Picked::Failed(Failure::Refused(11));
+        }
+        live[told] = kind;
+        t.live = told + 1;
+        i += 1;
+    }
+    Picked::Case(t, i)
 }

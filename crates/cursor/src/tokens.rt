@@ -3,8 +3,9 @@ ghost use mathlib.Core.Path.{_≡_};
 ghost use mathlib.Core.List.{List};
 ghost use Prim.Native.Nat.{ℕ};
 ghost use Rattle.cursor.specs.Sheet.{sheet, kindAt, rangeAt};
-ghost use Rattle.cursor.specs.Rule.{World};
-ghost use Rattle.cursor.specs.Tokens.{pastTrivia, bump};
+ghost use Rattle.cursor.specs.declared.Limits.{Limits};
+ghost use Rattle.cursor.specs.Rule.{World, done};
+ghost use Rattle.cursor.specs.Tokens.{pastTrivia, eatTrivia, bump, eatEol, startOf, endRange, rewind};
 ghost use Rattle.cursor.specs.Answers.{asMoved};
 use crate::Failure;
 use crate::Limits;
@@ -79,4 +80,61 @@ pub fn bump(tokens: &[u32], limits: Limits, s: State) -> Moved
     moved.reads = reads + 1;
     moved.live = 0;
     Moved::On(moved)
+}
+
+// Skips all trivia tokens.
+pub fn eat_trivia(tokens: &[u32], s: State) -> State
+    ensures { λ r. ⌜ ((x : List ℕ) (l : Limits) (w : World) → done r w tt ≡ eatTrivia (sheet x (now (tokens .entry)) l) s w) ⌝ }
+{
+    let next = past_trivia(tokens, s.at);
+    let mut moved = s;
+    moved.at = next;
+    moved
+}
+
+// Takes all Eol tokens, and the trivia before and between them.
+pub fn eat_eol(tokens: &[u32], limits: Limits, s: State) -> Moved
+    ensures { λ r. ⌜ ((x : List ℕ) (w : World) → asMoved r w ≡ eatEol (sheet x (now (tokens .entry)) limits) s w) ⌝ }
+{
+    let mut t = eat_trivia(tokens, s);
+    while current_kind(tokens, t) == kinds::EOL as u32 {
+        let moved = bump(tokens, limits, t);
+        match moved {
+            Moved::On(u) => {
+                t = u;
+            }
+            Moved::Failed(f) => return Moved::Failed(f),
+        }
+    }
+    Moved::On(t)
+}
+
+// Where a range starts that begins here; 0 at the end of input.
+pub fn start_range(tokens: &[u32], s: State) -> u32
+    ensures { λ r. ⌜ r ≡ startOf (rangeAt (now (tokens .entry)) (s .at)) ⌝ }
+{
+    let here = current_range(tokens, s);
+    match here {
+        Ranged::At(span) => span.start,
+        Ranged::Nowhere => 0,
+    }
+}
+
+// A range from a start to the end of the last token read.
+pub fn end_range(s: State, start: u32) -> Span
+    ensures { λ r. ⌜ r ≡ endRange s start ⌝ }
+{
+    Span { start, end: s.prev }
+}
+
+// Back to a mark, with the readings kept.
+pub fn rewind(mark: State, s: State) -> State
+    ensures { λ r. ⌜ r ≡ rewind mark s ⌝ }
+{
+    let mut back = mark;
+    back.reads = s.reads;
+    if s.live < mark.live {
+        back.live = s.live;
+    }
+    back
 }
