@@ -3,3 +3,13 @@ pub mod Ends
 pub mod Loops
 pub mod RecordPaths
 pub mod TokenPaths
+pub mod Finished
+pub mod Writes
+pub mod Laws
+pub mod Meaning
+pub mod Once
+pub mod Stack
+pub mod Grows
+pub mod Stacked
+pub mod Building
+pub mod Example
