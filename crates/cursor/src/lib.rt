@@ -80,7 +80,7 @@ pub enum Picked {
     Failed(Failure),
 }
 
-// The answer of a rule that builds a record: its index.
+// The answer of a rule that builds a record: the link to it.
 pub enum Built {
     Node(State, u32),
     Failed(Failure),
