@@ -8,3 +8,4 @@ pub mod Layout
 pub mod Records
 pub mod Tree
 pub mod Attempts
+pub mod Node

@@ -2,6 +2,7 @@
 // function that needs them, in this order: text, tokens, nodes, errors, expected, live, limits, state, the rest.
 
 pub mod checks;
+pub mod nodes;
 pub mod records;
 pub mod tokens;
 
