@@ -1,1 +1,7 @@
 pub mod Text
+pub mod Spelling
+pub mod Kinds
+pub mod Operators
+pub mod Listing
+pub mod Row
+pub mod TypeWords
