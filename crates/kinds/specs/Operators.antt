@@ -66,7 +66,7 @@ unfoldable pub compoundOf : ℕ → Operator
 compoundOf k = beside (kindName k) compound
 
 -- levels: * / % 5; + - 4; comparisons and `is` 3; and 2; or 1
-unfoldable pub precedenceOf : BinOp → ℕ
+abbrev pub precedenceOf : BinOp → ℕ
 precedenceOf Add = 4
 precedenceOf Sub = 4
 precedenceOf Mul = 5
@@ -84,7 +84,6 @@ precedenceOf Is = 3
 
 -- the level of a token kind: that of the operator which it stands for, and 0 where it stands for none
 abbrev pub levelBy : Operator → ℕ
-unfolding precedenceOf
 levelBy (Binary op) = precedenceOf op
 levelBy Nothing = 0
 
@@ -92,7 +91,7 @@ unfoldable pub levelOf : ℕ → ℕ
 levelOf k = levelBy (binaryOf k)
 
 -- the number of the token kind that an operator is written with
-unfoldable pub opKind : BinOp → ℕ
+abbrev pub opKind : BinOp → ℕ
 opKind Add = kindNumber "Add"
 opKind Sub = kindNumber "Sub"
 opKind Mul = kindNumber "Mul"

@@ -44,7 +44,7 @@ unfoldable pub typeWord : List ℕ → TypeWord
 typeWord b = wordIn b words
 
 -- the types in ValueType's order, counted from 0
-unfoldable pub typeNumber : ValueType → ℕ
+abbrev pub typeNumber : ValueType → ℕ
 typeNumber Null = 0
 typeNumber Bool = 1
 typeNumber Int = 2

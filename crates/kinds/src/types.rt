@@ -23,7 +23,7 @@ pub enum TypeWord {
 }
 
 // Where the listing name of each type starts among the names.
-const PLACES: [u8; 10] = [27, 32, 7, 11, 17, 21, 89, 95, 104, 111];
+const PLACES: [usize; 10] = [27, 32, 7, 11, 17, 21, 89, 95, 104, 111];
 
 // Whether the bytes of the text from `start` up to `end` are those of the word. A range that leaves the text stops at its end.
 pub fn same_bytes(text: &[u8], start: u32, end: u32, word: &[u8]) -> bool
@@ -45,10 +45,13 @@ pub fn same_bytes(text: &[u8], start: u32, end: u32, word: &[u8]) -> bool
         at += 1;
         i += 1;
     }
-    if at < stop {
-        return text.len() <= at;
+    if stop <= at {
+        return true;
     }
-    true
+    if text.len() <= at {
+        return true;
+    }
+    false
 }
 
 // The type that a range of the text names. `null` has a kind of its own and is no word here.
@@ -108,7 +111,7 @@ pub fn value_type_name_place(number: u32) -> usize
     ensures { λ r. ⌜ r ≡ typeNamePlace number ⌝ }
 {
     if number < 10 {
-        PLACES[number as usize] as usize
+        PLACES[number as usize]
     } else {
         0
     }
