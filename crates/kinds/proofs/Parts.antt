@@ -9,9 +9,9 @@ use mathlib.Core.Path.{_≡_, refl}
 use lib.Dec.{eqb}
 use lib.ListN.{length, getD, take, drop, drop-of-length-le}
 use lib.Seq.{drop-cons, take-nil}
-use borrow.Author.Tests.{eq-eqb, ne-eqb}
+use borrow.Author.Tests.{eqb-true, eq-eqb, ne-eqb}
 use Rattle.kinds.specs.Text.{part}
-use Rattle.kinds.specs.Spelling.{equal}
+use Rattle.kinds.specs.Spelling.{choose, equal}
 
 -- nothing is left where the range has ended
 pub part-ended : (text : List ℕ) (start end : ℕ) → end ≤ start → part text start end ≡ []
@@ -28,6 +28,23 @@ pub part-more :
 part-more text start end h l =
     let e : end - start ≡ suc (end - (start + 1)) = omega arith in
     rw (e, drop-cons text start 0 l, add-one)
+
+-- `equal` holds of the same byte strings and of no others
+pub equal-same : (a b : List ℕ) → equal a b ≡ true → a ≡ b
+unfolding equal
+equal-same [] [] e = refl
+equal-same [] (y ∷ b) e = cc
+equal-same (x ∷ a) [] e = cc
+equal-same (x ∷ a) (y ∷ b) e = go (eqb x y) refl e (equal-same a b)
+  where
+    go : (t : Bool) → eqb x y ≡ t → choose t (equal a b) false ≡ true → (equal a b ≡ true → a ≡ b) → x ∷ a ≡ y ∷ b
+    go true h g rest = let p : x ≡ y = eqb-true x y h in let q : a ≡ b = rest g in cc
+    go false h g rest = cc
+
+pub same-equal : (a : List ℕ) → equal a a ≡ true
+unfolding equal
+same-equal [] = refl
+same-equal (x ∷ a) = rw (eq-eqb x x refl) (same-equal a)
 
 module _ (text word : List ℕ) (at end i : ℕ) where
   -- the word has a byte left and the part has none

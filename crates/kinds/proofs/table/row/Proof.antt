@@ -27,7 +27,7 @@ rule k x t =
     record {
       trivia = eqb→eq _ _ (both-first (eqb (x % 16) (flag (isTrivia k))) _ t);
       level = eqb→eq _ _ (both-first (eqb (x / 16 % 16) (levelOf k)) _ rest);
-      name = eqb→eq _ _ (both-second (eqb (x / 16 % 16) (levelOf k)) _ rest)
+      name = eqb→eq _ _ (both-second (eqb (x / 16 % 16) (levelOf k)) _ rest);
     }
 
 rules : (table : List ℕ) → T (every 79 (λ k. right k (getD table k 0))) → (k : ℕ) → k < 79 → Row k (getD table k 0)
