@@ -2,6 +2,8 @@
 use Prim.Native.Nat.{ℕ, zero, suc, _+_}
 use Prim.Native.String.{String, _++_, len}
 use mathlib.Core.List.{List, [], _∷_}
+use lib.Dec.{eqb}
+use lib.ListN.{drop}
 use lib.Text.{eqt}
 use Rattle.kinds.specs.declared.operator.Operator.{Operator}
 use Rattle.kinds.specs.declared.operator.Operator.the-variants.{Binary, Nothing}
@@ -91,3 +93,12 @@ placeOf s = startIn s names
 
 unfoldable pub namePlace : ℕ → ℕ
 namePlace k = placeOf (listingName k)
+
+-- what stands before the first space
+abbrev pub upToSpace : List ℕ → List ℕ
+upToSpace [] = []
+upToSpace (b ∷ rest) = choose (eqb b 32) [] (b ∷ upToSpace rest)
+
+-- the name that starts at a place of the row
+unfoldable pub nameAt : ℕ → List ℕ
+nameAt place = upToSpace (drop place nameBytes)
