@@ -18,6 +18,7 @@ use Rattle.kinds.specs.declared.types.ValueType.{ValueType}
 use Rattle.kinds.specs.declared.types.ValueType.the-variants as type
 use Rattle.kinds.specs.declared.types.TypeWord.{TypeWord}
 use Rattle.kinds.specs.declared.types.TypeWord.the-variants.{Known, Unknown}
+use Rattle.kinds.specs.Number as kind
 use Rattle.kinds.specs.Spelling.{bytes, choose, equal}
 use Rattle.kinds.specs.Kinds.{order, kindNumber, isTrivia}
 use Rattle.kinds.specs.Operators.{binaryOf, compoundOf, levelOf, opKind, caseOf}
@@ -36,6 +37,91 @@ pub numbers :
     map kindNumber ("Ident" ∷ "Int" ∷ "Fn" ∷ "Comma" ∷ "OpenParen" ∷ "CloseParen" ∷ "OpenBrace" ∷ "CloseBrace" ∷ "Colon" ∷ "Add" ∷ "Eol" ∷ "Eof" ∷ "UnterminatedByteStr" ∷ []) ≡
     4 ∷ 5 ∷ 29 ∷ 48 ∷ 50 ∷ 51 ∷ 52 ∷ 53 ∷ 59 ∷ 64 ∷ 69 ∷ 70 ∷ 78 ∷ []
 numbers = refl
+
+-- the numbers by which rules name the kinds are these numbers
+pub numbers-named :
+    map kindNumber order ≡
+    kind.LineComment
+    ∷ kind.BlockComment
+    ∷ kind.Whitespace
+    ∷ kind.EscapedNewline
+    ∷ kind.Ident
+    ∷ kind.Int
+    ∷ kind.Float
+    ∷ kind.Str
+    ∷ kind.RawStr
+    ∷ kind.ByteStr
+    ∷ kind.If
+    ∷ kind.Else
+    ∷ kind.Match
+    ∷ kind.Loop
+    ∷ kind.While
+    ∷ kind.For
+    ∷ kind.In
+    ∷ kind.Break
+    ∷ kind.Continue
+    ∷ kind.Return
+    ∷ kind.Glo
+    ∷ kind.Import
+    ∷ kind.As
+    ∷ kind.Is
+    ∷ kind.Not
+    ∷ kind.And
+    ∷ kind.Or
+    ∷ kind.Try
+    ∷ kind.With
+    ∷ kind.Fn
+    ∷ kind.Do
+    ∷ kind.Effect
+    ∷ kind.Null
+    ∷ kind.True
+    ∷ kind.False
+    ∷ kind.Ellipsis
+    ∷ kind.DoubleColon
+    ∷ kind.Arrow
+    ∷ kind.FatArrow
+    ∷ kind.Eq
+    ∷ kind.NotEq
+    ∷ kind.LtEq
+    ∷ kind.GtEq
+    ∷ kind.AddAssign
+    ∷ kind.SubAssign
+    ∷ kind.MulAssign
+    ∷ kind.DivAssign
+    ∷ kind.RemAssign
+    ∷ kind.Comma
+    ∷ kind.Dot
+    ∷ kind.OpenParen
+    ∷ kind.CloseParen
+    ∷ kind.OpenBrace
+    ∷ kind.CloseBrace
+    ∷ kind.OpenBracket
+    ∷ kind.CloseBracket
+    ∷ kind.Pound
+    ∷ kind.Question
+    ∷ kind.Exclamation
+    ∷ kind.Colon
+    ∷ kind.Assign
+    ∷ kind.Lt
+    ∷ kind.Gt
+    ∷ kind.VBar
+    ∷ kind.Add
+    ∷ kind.Sub
+    ∷ kind.Mul
+    ∷ kind.Div
+    ∷ kind.Rem
+    ∷ kind.Eol
+    ∷ kind.Eof
+    ∷ kind.Unknown
+    ∷ kind.UnterminatedBlockComment
+    ∷ kind.EmptyInt
+    ∷ kind.EmptyExponentFloat
+    ∷ kind.NonDecimalFloat
+    ∷ kind.UnterminatedStr
+    ∷ kind.UnterminatedRawStr
+    ∷ kind.UnterminatedByteStr
+    ∷ []
+numbers-named = refl
 
 flag-same : (a b : Bool) → flag a ≡ flag b → a ≡ b
 flag-same true true e = refl

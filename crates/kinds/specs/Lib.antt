@@ -1,4 +1,5 @@
 pub mod Text
+pub mod Number
 pub mod Spelling
 pub mod Kinds
 pub mod Operators
