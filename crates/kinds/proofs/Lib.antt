@@ -1,0 +1,5 @@
+pub mod Every
+pub mod Rest
+pub mod Parts
+pub mod Theorems
+pub mod Unique
