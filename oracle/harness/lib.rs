@@ -1,0 +1,13 @@
+//! The original's parser, fed with token lists, and what the document adds around it.
+
+pub mod answer;
+pub mod bundle;
+pub mod chance;
+pub mod compiler;
+pub mod cost;
+pub mod entry;
+pub mod listing;
+pub mod probe;
+pub mod sites;
+pub mod spell;
+pub mod utils;
