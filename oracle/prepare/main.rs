@@ -17,23 +17,14 @@ const TREE: [&str; 14] = [
     "program", "ty",
 ];
 
-/// Modules of this folder and where they go.
-const OWN: [(&str, &str); 15] = [
-    ("shims/modules/compiler.rs", "compiler/mod.rs"),
-    ("shims/modules/ast.rs", "compiler/ast/mod.rs"),
-    ("shims/modules/interning.rs", "compiler/interning.rs"),
-    ("shims/modules/value.rs", "compiler/value.rs"),
-    ("shims/modules/index.rs", "compiler/index.rs"),
-    ("shims/modules/utils.rs", "utils/mod.rs"),
-    ("harness/lib.rs", "lib.rs"),
-    ("harness/probe.rs", "probe.rs"),
-    ("harness/bundle.rs", "bundle.rs"),
-    ("harness/entry.rs", "entry.rs"),
-    ("harness/listing.rs", "listing.rs"),
-    ("harness/answer.rs", "answer.rs"),
-    ("harness/cost.rs", "cost.rs"),
-    ("harness/chance.rs", "chance.rs"),
-    ("harness/spell.rs", "spell.rs"),
+/// Shims of this folder and where they go; the harness goes beside them as it is.
+const SHIMS: [(&str, &str); 6] = [
+    ("compiler", "compiler/mod"),
+    ("ast", "compiler/ast/mod"),
+    ("interning", "compiler/interning"),
+    ("value", "compiler/value"),
+    ("index", "compiler/index"),
+    ("utils", "utils/mod"),
 ];
 
 fn put(from: &Path, to: &Path) -> Result<(), Box<dyn Error>> {
@@ -56,8 +47,12 @@ fn main() -> Result<(), Box<dyn Error>> {
         let name = format!("compiler/ast/{name}.rs");
         put(&source.join(&name), &out.join(&name))?;
     }
-    for (from, to) in OWN {
-        put(&oracle.join(from), &out.join(to))?;
+    for (from, to) in SHIMS {
+        put(&oracle.join(format!("shims/modules/{from}.rs")), &out.join(format!("{to}.rs")))?;
+    }
+    for entry in fs::read_dir(oracle.join("harness"))? {
+        let entry = entry?;
+        put(&entry.path(), &out.join(entry.file_name()))?;
     }
     let original = fs::read_to_string(source.join("compiler/parser.rs"))?;
     let tokens = tokens::cut(&original);

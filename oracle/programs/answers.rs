@@ -1,0 +1,33 @@
+//! answers [--rule] [--counts]: a stream of bundles on standard input, the stream of their listings on standard output.
+//!
+//! With --rule the document's own rules answer outside the domain, as in `list`. --counts writes to standard error how many
+//! listings there were of each sort.
+
+use std::{collections::BTreeMap, io::{self, BufWriter, Write}};
+
+use lucia::{answer, bundle::{read_stream, write_piece}, probe::LISTER};
+
+fn sort_of(text: &str) -> String {
+    let head = text.lines().next().unwrap_or("");
+    match head.strip_prefix("read 0") {
+        Some(rest) if rest.ends_with("errors 0") => "read without errors".to_owned(),
+        Some(_) => "read with errors".to_owned(),
+        None => head.to_owned(),
+    }
+}
+
+fn main() -> io::Result<()> {
+    let options: Vec<String> = std::env::args().skip(1).collect();
+    let has = |name: &str| options.iter().any(|option| option == name);
+    let mut sorts: BTreeMap<String, usize> = BTreeMap::new();
+    let mut out = BufWriter::new(io::stdout().lock());
+    for bundle in read_stream(io::stdin().lock())? {
+        let text = answer::bytes(&bundle, LISTER, has("--rule")).text;
+        *sorts.entry(sort_of(&text)).or_default() += 1;
+        write_piece(&mut out, text.as_bytes())?;
+    }
+    if has("--counts") {
+        sorts.iter().for_each(|(sort, count)| eprintln!("{count:8} {sort}"));
+    }
+    out.flush()
+}
