@@ -1,6 +1,8 @@
 //! What the patches call: the counts and limits of the document, and the numbered branches.
 //!
 //! Whatever ends a reading early unwinds out of the original's parser and is caught in `run`.
+//!
+//! Compiled with `--cfg plain` nothing is counted and nothing refused: what is left is the original, for measuring its speed.
 
 use std::{
     cell::Cell,
@@ -9,7 +11,7 @@ use std::{
     sync::atomic::{AtomicU64, Ordering::Relaxed},
 };
 
-use crate::compiler::{ast::*, error::CompilerError};
+use crate::compiler::{ast::*, error::CompilerError, token::TokenKind};
 use crate::sites::SITES;
 
 /// The limits of one reading.
@@ -54,9 +56,13 @@ thread_local! {
     }) };
     static LIMITS: Cell<Limits> = const { Cell::new(LISTER) };
     static RULE: Cell<bool> = const { Cell::new(false) };
+    static STAIN: Cell<bool> = const { Cell::new(false) };
 }
 
 fn change(f: impl FnOnce(&mut Counts)) -> Counts {
+    if cfg!(plain) {
+        return Counts::default();
+    }
     COUNTS.with(|cell| {
         let mut counts = cell.get();
         f(&mut counts);
@@ -70,7 +76,7 @@ fn end(how: End) -> ! {
 }
 
 fn refuse_past(count: u64, limit: impl Fn(Limits) -> u64, number: u8) {
-    if count > limit(LIMITS.get()) {
+    if !cfg!(plain) && count > limit(LIMITS.get()) {
         end(End::Refused(number));
     }
 }
@@ -117,17 +123,33 @@ impl Drop for Depth {
     }
 }
 
-/// Node records in use.
-pub fn records() -> u64 {
-    COUNTS.get().records
+/// The counts as they are now.
+pub fn mark() -> Counts {
+    change(|_| ())
 }
 
-pub fn give_back(records: u64) {
-    change(|c| c.records = records);
+/// Node records built since `mark` are given back.
+pub fn give_back(mark: &Counts) {
+    change(|c| c.records = mark.records);
+}
+
+/// From now on, on this thread, `stain` does what it says.
+pub fn stain_rests(on: bool) {
+    STAIN.set(on);
+}
+
+/// What an undone attempt that read something left in the live list is replaced by Unknown, for which nothing asks.
+pub fn stain(live: &mut [TokenKind], mark: &Counts) {
+    if !cfg!(plain) && STAIN.get() && COUNTS.get().readings > mark.readings {
+        live.fill(TokenKind::Unknown);
+    }
 }
 
 /// Whether an attempt is to be undone. Answers the Rust's test inside the domain.
-pub fn undo(gave_node: bool, new_errors: bool, records: u64) -> bool {
+pub fn undo(gave_node: bool, new_errors: bool, mark: &Counts) -> bool {
+    if cfg!(plain) {
+        return !gave_node || new_errors;
+    }
     if gave_node && new_errors {
         if !RULE.get() {
             end(End::Attempt);
@@ -135,7 +157,7 @@ pub fn undo(gave_node: bool, new_errors: bool, records: u64) -> bool {
         change(|c| c.by_rule = true);
     }
     if !gave_node {
-        give_back(records);
+        give_back(mark);
     }
     !gave_node
 }
@@ -149,6 +171,9 @@ fn expected(error: &CompilerError) -> u64 {
 
 /// An error is about to join the list.
 pub fn log(errors: &[CompilerError], error: &CompilerError) {
+    if cfg!(plain) {
+        return;
+    }
     refuse_past(errors.len() as u64 + 1, |l| l.errors, 8);
     refuse_past(errors.iter().chain([error]).map(expected).sum(), |l| l.expected, 8);
 }
@@ -234,6 +259,9 @@ pub fn hits() -> Vec<u64> {
 }
 
 pub fn hit(site: usize) {
+    if cfg!(plain) {
+        return;
+    }
     HITS[site].fetch_add(1, Relaxed);
 }
 

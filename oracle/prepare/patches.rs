@@ -19,7 +19,7 @@ struct Patch {
     text: &'static str,
 }
 
-const PATCHES: [Patch; 8] = [
+const PATCHES: [Patch; 9] = [
     Patch {
         name: "readings",
         reason: "counts a reading where `bump` has a token before it; ends the run past the allowance (10)",
@@ -38,11 +38,11 @@ const PATCHES: [Patch; 8] = [
     },
     Patch {
         name: "attempt-mark",
-        reason: "remembers the node records in use when an attempt starts",
+        reason: "remembers the counts when an attempt starts",
         anchor: "let checkpoint = self.checkpoint();",
         times: 1,
         how: How::After,
-        text: " let records = crate::probe::records();",
+        text: " let mark = crate::probe::mark();",
     },
     Patch {
         name: "attempt-verdict",
@@ -50,15 +50,23 @@ const PATCHES: [Patch; 8] = [
         anchor: "node.is_err() || self.errors.len() > errors_len",
         times: 1,
         how: How::Instead,
-        text: "crate::probe::undo(node.is_ok(), self.errors.len() > errors_len, records)",
+        text: "crate::probe::undo(node.is_ok(), self.errors.len() > errors_len, &mark)",
+    },
+    Patch {
+        name: "attempt-rest",
+        reason: "by option replaces what an undone attempt leaves in the live list by a kind that nothing asks for, to see where it shows",
+        anchor: "self.rewind(checkpoint);",
+        times: 1,
+        how: How::After,
+        text: " crate::probe::stain(&mut self.expected_kinds, &mark);",
     },
     Patch {
         name: "statement-mark",
-        reason: "remembers the node records in use when a statement starts",
+        reason: "remembers the counts when a statement starts",
         anchor: "match self.parse_stmt()",
         times: 1,
         how: How::Before,
-        text: "let records = crate::probe::records(); ",
+        text: "let mark = crate::probe::mark(); ",
     },
     Patch {
         name: "statement-failed",
@@ -66,7 +74,7 @@ const PATCHES: [Patch; 8] = [
         anchor: "Err(error) => {",
         times: 1,
         how: How::After,
-        text: " crate::probe::give_back(records);",
+        text: " crate::probe::give_back(&mark);",
     },
     Patch {
         name: "errors",

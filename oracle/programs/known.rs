@@ -1,7 +1,8 @@
 //! known: runs the sheets whose outcomes the document gives ('Sheets with known outcomes' and examples in its rules) and
-//! compares. Each row names a sheet, the option it needs, and lines that its listing must have. Fails if one differs.
+//! compares; then what an earlier run settled about records and lines. Each row names a sheet, the option it needs, and lines that
+//! its listing must have, in this order. Fails if one differs.
 
-use lucia::{answer, bundle::{Bundle, Word}, probe::LISTER};
+use lucia::{answer, bundle::{Bundle, Word}, compiler::token::TokenKind, entry::KINDS, probe::LISTER};
 
 struct Known {
     text: String,
@@ -46,13 +47,72 @@ fn rows() -> Vec<Known> {
     ]
 }
 
-/// A Str whose only byte is a double quote: no lexer cuts it.
-fn lone_quote() -> Bundle {
-    Bundle { text: b"\"".to_vec(), words: vec![Word { kind: 7, start: 0, end: 1 }] }
+/// Statements about records and lines that were settled by an earlier run.
+fn settled() -> Vec<Known> {
+    vec![
+        row("if a {b} else {c}", &["1 If 0 17", "2 Block 6 8", "2 Block 15 17", "3 Block 15 17", "4 Ident 15 16"]),
+        row("fn f () {}", &["1 Fn 0 10", "2 Ident 3 4", "2 Function 0 10", "3 Block 9 10"]),
+        row("x {y}", &["1 Call 0 5", "2 Closure 3 5", "3 Block 3 5"]),
+        row("import a::{b}", &["1 Import 0 13", "2 Ident 7 8", "2 ImportItem 11 12", "3 Ident 11 12"]),
+        row("match x { {1: a} => 2 }", &["2 MatchCase 10 21", "3 Table 10 16", "4 TablePatternPair 11 15", "5 Int 11 12 1"]),
+        row("glo fn f () {}", &["1 Fn 0 14", "2 Ident 7 8", "2 Function 0 14"]),
+        row("glo effect e ()", &["1 Effect 0 15", "2 Ident 11 12", "2 Effect 4 15"]),
+        row("try x() with e () {}", &["1 Call 4 7", "2 Ident 4 5", "2 EffectHandler 8 20"]),
+        row("|a, ...b| -> c {d}", &["2 Closure 0 18", "3 Ident 1 2", "3 Ident 7 8", "3 Ident 13 14", "3 Block 16 18"]),
+        row("a.b", &["1 Member 0 3", "2 Ident 0 1", "2 Ident 2 3"]),
+        row("a.b != r'c'", &["1 Binary 0 11 Ne", "2 Str 7 11"]),
+        row("a -= - b'c'", &["1 AssignOp 0 11 Sub", "2 Ident 0 1", "2 Unary 5 11 Neg", "3 Bytes 7 11"]),
+        row("a is userdata", &["1 TypeCheck 0 13 UserData"]),
+        row("a: b = c", &["1 Assign 0 8", "2 TypedIdent 0 4", "3 Ident 0 1", "3 Ident 3 4", "2 Ident 7 8"]),
+        row("a.b = true", &["1 Assign 0 10", "2 Member 0 3", "3 Ident 0 1", "3 Ident 2 3", "2 Bool 6 10"]),
+        row("try x", &["error 27 0 3"]),
+        row("a is effect", &["error 31 5 11"]),
+        row("x\nif a {", &["read 0 reads 5 nodes 5 errors 2", "1 If 2 8", "2 Block 0 8"]),
+        row("{", &["read 0 reads 1 nodes 3 errors 2"]),
+    ]
+}
+
+/// A list that no lexer cuts, from kinds and spellings, with nothing between.
+fn list(words: &[(u8, &str)]) -> Bundle {
+    let mut bundle = Bundle::default();
+    for (kind, spelling) in words {
+        let start = bundle.text.len() as u32;
+        bundle.text.extend(spelling.bytes());
+        bundle.words.push(Word { kind: *kind, start, end: bundle.text.len() as u32 });
+    }
+    bundle
+}
+
+fn lists() -> Vec<(&'static str, Bundle, &'static [&'static str])> {
+    let trivia = Bundle { text: b"x ".to_vec(), words: vec![Word { kind: 2, start: 1, end: 2 }] };
+    vec![
+        ("a Str of the single byte \"", list(&[(7, "\"")]), &["refused 6"]),
+        ("an Ident spelled effect after `is`", list(&[(4, "a"), (23, "is"), (4, "effect")]), &["1 TypeCheck 0 9 Effect"]),
+        ("trivia only, from 1", trivia, &["outside trivia"]),
+        ("a Str with a backslash, not read", list(&[(7, "'\\'")]), &["outside literal"]),
+        ("a ByteStr above 127", list(&[(9, "b'é'")]), &["outside literal"]),
+        ("a Float that does not parse", list(&[(6, "x")]), &["outside literal"]),
+        ("an Int that is a sign", list(&[(5, "-")]), &["error int 1 0 1"]),
+        ("an Int of underscores", list(&[(5, "__")]), &["error int 0 0 2"]),
+        ("the least integer as one Int", list(&[(5, "-9223372036854775808")]), &["1 Int 0 20 -9223372036854775808"]),
+        ("one below it", list(&[(5, "-9223372036854775809")]), &["error int 3 0 20"]),
+        ("a prefix behind an underscore", list(&[(5, "0_x1")]), &["1 Int 0 4 1"]),
+        ("a kind of error", list(&[(78, "b'")]), &["read 0 reads 1 nodes 1 errors 1"]),
+    ]
+}
+
+/// The kind numbers that the document names.
+fn kinds() -> bool {
+    use TokenKind::*;
+    let named = [(Ident, 4), (Int, 5), (Fn, 29), (Comma, 48), (OpenParen, 50), (CloseParen, 51), (OpenBrace, 52), (CloseBrace, 53),
+        (Colon, 59), (Add, 64), (Eol, 69), (Eof, 70), (UnterminatedByteStr, 78)];
+    named.iter().all(|(kind, number)| *kind as u8 == *number)
+        && KINDS.iter().enumerate().all(|(i, kind)| *kind as usize == i && kind.is_trivia() == (i < 4))
 }
 
 fn compare(name: &str, text: &str, lines: &[&str]) -> bool {
-    let missing: Vec<&&str> = lines.iter().filter(|line| !text.lines().any(|l| l == **line)).collect();
+    let mut rest = text.lines();
+    let missing: Vec<&&str> = lines.iter().filter(|line| !rest.any(|l| l == **line)).collect();
     let short: String = name.chars().take(40).collect();
     println!("{} {short:?}: {}", if missing.is_empty() { "agrees " } else { "DIFFERS" }, lines[0]);
     if !missing.is_empty() {
@@ -62,11 +122,14 @@ fn compare(name: &str, text: &str, lines: &[&str]) -> bool {
 }
 
 fn main() {
-    let mut good = true;
-    for row in rows() {
+    let mut good = kinds();
+    println!("{} the kind numbers", if good { "agrees " } else { "DIFFERS" });
+    for row in rows().into_iter().chain(settled()) {
         let answer = answer::bundle(&answer::cut(&row.text), LISTER, row.rule);
         good &= compare(&row.text, &answer.text, row.lines);
     }
-    good &= compare("a Str of the single byte \"", &answer::bundle(&lone_quote(), LISTER, false).text, &["refused 6"]);
+    for (name, bundle, lines) in lists() {
+        good &= compare(name, &answer::bundle(&bundle, LISTER, false).text, lines);
+    }
     std::process::exit(if good { 0 } else { 1 });
 }

@@ -1,10 +1,9 @@
 //! readings: checks statements about the original on a stream of bundles on standard input and counts what it finds:
-//! demand 3's sum against the counted readings, the longest live list, blocks that start before their parents,
-//! the peak of node records against the number left, and whether what an attempt leaves in the live list shows in an error.
+//! demand 3's sum against the counted readings, the peaks, and whether what an attempt leaves in the live list shows in an error.
 
 use std::io;
 
-use lucia::{answer, bundle::{Bundle, read_stream}, cost, entry::enter, probe::{Counts, LISTER}};
+use lucia::{answer, bundle::{Bundle, read_stream}, cost, entry::enter, probe::{Counts, LISTER, stain_rests}};
 
 #[derive(Default)]
 struct Found {
@@ -13,6 +12,7 @@ struct Found {
     sum_differs: usize,
     peaks: Counts,
     doubled: usize,
+    rest_shows: usize,
 }
 
 fn look(found: &mut Found, bundle: &Bundle) {
@@ -22,6 +22,13 @@ fn look(found: &mut Found, bundle: &Bundle) {
     found.peaks.records_peak = found.peaks.records_peak.max(answer.counts.records_peak);
     found.peaks.depth_peak = found.peaks.depth_peak.max(answer.counts.depth_peak);
     found.peaks.readings = found.peaks.readings.max(answer.counts.readings);
+    stain_rests(true);
+    let stained = answer::bundle(bundle, LISTER, false);
+    stain_rests(false);
+    if stained.text != answer.text {
+        found.rest_shows += 1;
+        println!("what an attempt left shows: {:?}", String::from_utf8_lossy(&bundle.text));
+    }
     let Some(reading) = answer.reading.filter(|reading| reading.1.is_empty()) else {
         return;
     };
@@ -45,7 +52,8 @@ fn main() -> io::Result<()> {
     }
     println!("sheets {}, without errors {}, of these with a token read twice {}", found.sheets, found.free, found.doubled);
     println!("demand 3's sum differs on {}", found.sum_differs);
+    println!("what an attempt left in the live list shows on {}", found.rest_shows);
     println!("longest live list {}, most records in use {}, greatest depth {}, most readings {}",
         found.peaks.live_peak, found.peaks.records_peak, found.peaks.depth_peak, found.peaks.readings);
-    std::process::exit(if found.sum_differs == 0 { 0 } else { 1 });
+    std::process::exit(if found.sum_differs + found.rest_shows == 0 { 0 } else { 1 });
 }
