@@ -10,6 +10,7 @@ pool=$folder/pool
 
 {
     $bin/sheets texts texts.txt
+    $bin/sheets odd
     $bin/sheets limits
     $bin/sheets grammatical 1 900 40
     $bin/sheets damaged 2 1500 30

@@ -29,6 +29,10 @@ pub struct Limits {
 pub const LISTER: Limits =
     Limits { nodes: 1024, errors: 16, expected: 1024, depth: 64, readings: 100_000, live: 1024 };
 
+/// The most that any caller can lend: the record limits of the document, and expected kinds and readings without end.
+pub const WIDEST: Limits =
+    Limits { nodes: 8192, errors: 64, expected: u64::MAX, depth: 64, readings: u32::MAX as u64, live: 1024 };
+
 /// How a reading ended before its end.
 #[derive(Debug, Clone, Copy, PartialEq, Eq)]
 pub enum End {

@@ -32,10 +32,11 @@ const INTS: [&str; 12] = [
 ];
 
 /// Spellings that a lexer would not cut, or that are faulty.
-const ODD_INTS: [&str; 30] = [
+const ODD_INTS: [&str; 36] = [
     "9223372036854775808", "0x", "_", "-", "+", "+5", "-9223372036854775808", "-9223372036854775809", "0_x1", "0b2", "0o8",
     "12ab", "0x8000000000000000", "0xfffffffffffffffff", "é", "1é", "0x-1", "0o-", "0x_", "99999999999999999999z", "0b+", "0X1",
     "-0", "--1", "9_223_372_036_854_775_808", "0x-8000000000000000", "0x-8000000000000001", "92233720368547758070", "__", "0b",
+    "9223372036854775808a", "922337203685477581a", "-922337203685477581a", "-9223372036854775809a", "0b_0_2", "1-1",
 ];
 
 const FLOATS: [&str; 8] = ["1.5", "0.25", "1e3", "2.5e-3", "1_0.5_0", "1.", "9e999", "inf"];
@@ -85,6 +86,42 @@ pub fn spell(kind: TokenKind, taste: Taste, chance: &mut Chance) -> Piece {
         other => fixed(other),
     };
     Piece { kind, text: text.to_owned() }
+}
+
+/// A list of pieces with nothing between.
+pub fn row(words: &[(TokenKind, &str)]) -> Bundle {
+    let mut bundle = Bundle::default();
+    for (kind, text) in words {
+        push(&mut bundle, &Piece { kind: *kind, text: (*text).to_owned() });
+    }
+    bundle
+}
+
+/// Short lists that no lexer cuts: each spelling of a literal alone, each type word after `is`, trivia and gaps at the start.
+pub fn odd() -> Vec<Bundle> {
+    let mut lists = Vec::new();
+    let alone: [(TokenKind, &[&str]); 10] = [
+        (Int, &INTS), (Int, &ODD_INTS), (Float, &FLOATS), (Float, &ODD_FLOATS), (Str, &STRS), (Str, &ODD_STRS), (RawStr, &RAW_STRS),
+        (ByteStr, &BYTE_STRS), (ByteStr, &ODD_BYTE_STRS), (Ident, &NAMES),
+    ];
+    for (kind, texts) in alone {
+        lists.extend(texts.iter().map(|text| row(&[(kind, text)])));
+    }
+    lists.extend(TYPE_WORDS.iter().map(|word| row(&[(Ident, "a"), (Is, "is"), (Ident, word)])));
+    let starts: [&[(TokenKind, &str)]; 4] = [
+        &[(Whitespace, " ")],
+        &[(Whitespace, " "), (BlockComment, "/**/"), (EscapedNewline, "\\\n"), (LineComment, "//")],
+        &[(Whitespace, " "), (Ident, "a")],
+        &[(Eol, "\n"), (Whitespace, " ")],
+    ];
+    for start in starts {
+        let mut bundle = row(start);
+        lists.push(bundle.clone());
+        bundle.text.insert(0, b'x');
+        bundle.words.iter_mut().for_each(|word| *word = Word { start: word.start + 1, end: word.end + 1, ..*word });
+        lists.push(bundle);
+    }
+    lists
 }
 
 fn needs_space(before: &str, after: &str) -> bool {

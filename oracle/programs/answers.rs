@@ -5,15 +5,16 @@
 
 use std::{collections::BTreeMap, io::{self, BufWriter, Write}};
 
-use lucia::{answer, bundle::{read_stream, write_piece}, probe::LISTER};
+use lucia::{answer::{self, Answer, Mark}, bundle::{read_stream, write_piece}, probe::LISTER};
 
-fn sort_of(text: &str) -> String {
-    let head = text.lines().next().unwrap_or("");
-    match head.strip_prefix("read 0") {
-        Some(rest) if rest.ends_with("errors 0") => "read without errors".to_owned(),
-        Some(_) => "read with errors".to_owned(),
-        None => head.to_owned(),
-    }
+fn sort_of(answer: &Answer) -> String {
+    let head = answer.text.lines().next().unwrap_or("");
+    let sort = match head.strip_prefix("read 0") {
+        Some(rest) if rest.ends_with("errors 0") => "read without errors",
+        Some(_) => "read with errors",
+        None => head,
+    };
+    if answer.mark == Mark::None { sort.to_owned() } else { format!("{sort}, {}", answer.mark.word()) }
 }
 
 fn main() -> io::Result<()> {
@@ -22,9 +23,9 @@ fn main() -> io::Result<()> {
     let mut sorts: BTreeMap<String, usize> = BTreeMap::new();
     let mut out = BufWriter::new(io::stdout().lock());
     for bundle in read_stream(io::stdin().lock())? {
-        let text = answer::bytes(&bundle, LISTER, has("--rule")).text;
-        *sorts.entry(sort_of(&text)).or_default() += 1;
-        write_piece(&mut out, text.as_bytes())?;
+        let answer = answer::bytes(&bundle, LISTER, has("--rule"));
+        *sorts.entry(sort_of(&answer)).or_default() += 1;
+        write_piece(&mut out, answer.text.as_bytes())?;
     }
     if has("--counts") {
         sorts.iter().for_each(|(sort, count)| eprintln!("{count:8} {sort}"));

@@ -2,7 +2,7 @@
 //! compares; then what an earlier run settled about records and lines. Each row names a sheet, the option it needs, and lines that
 //! its listing must have, in this order. Fails if one differs.
 
-use lucia::{answer, bundle::{Bundle, Word}, compiler::token::TokenKind, entry::KINDS, probe::LISTER};
+use lucia::{answer, bundle::{Bundle, Word}, compiler::token::TokenKind, entry::KINDS, probe::LISTER, spell::row as row_of};
 
 struct Known {
     text: String,
@@ -72,32 +72,23 @@ fn settled() -> Vec<Known> {
     ]
 }
 
-/// A list that no lexer cuts, from kinds and spellings, with nothing between.
-fn list(words: &[(u8, &str)]) -> Bundle {
-    let mut bundle = Bundle::default();
-    for (kind, spelling) in words {
-        let start = bundle.text.len() as u32;
-        bundle.text.extend(spelling.bytes());
-        bundle.words.push(Word { kind: *kind, start, end: bundle.text.len() as u32 });
-    }
-    bundle
-}
-
+/// Lists that no lexer cuts.
 fn lists() -> Vec<(&'static str, Bundle, &'static [&'static str])> {
+    use TokenKind::*;
     let trivia = Bundle { text: b"x ".to_vec(), words: vec![Word { kind: 2, start: 1, end: 2 }] };
     vec![
-        ("a Str of the single byte \"", list(&[(7, "\"")]), &["refused 6"]),
-        ("an Ident spelled effect after `is`", list(&[(4, "a"), (23, "is"), (4, "effect")]), &["1 TypeCheck 0 9 Effect"]),
+        ("a Str of the single byte \"", row_of(&[(Str, "\"")]), &["refused 6"]),
+        ("an Ident spelled effect after `is`", row_of(&[(Ident, "a"), (Is, "is"), (Ident, "effect")]), &["1 TypeCheck 0 9 Effect"]),
         ("trivia only, from 1", trivia, &["outside trivia"]),
-        ("a Str with a backslash, not read", list(&[(7, "'\\'")]), &["outside literal"]),
-        ("a ByteStr above 127", list(&[(9, "b'é'")]), &["outside literal"]),
-        ("a Float that does not parse", list(&[(6, "x")]), &["outside literal"]),
-        ("an Int that is a sign", list(&[(5, "-")]), &["error int 1 0 1"]),
-        ("an Int of underscores", list(&[(5, "__")]), &["error int 0 0 2"]),
-        ("the least integer as one Int", list(&[(5, "-9223372036854775808")]), &["1 Int 0 20 -9223372036854775808"]),
-        ("one below it", list(&[(5, "-9223372036854775809")]), &["error int 3 0 20"]),
-        ("a prefix behind an underscore", list(&[(5, "0_x1")]), &["1 Int 0 4 1"]),
-        ("a kind of error", list(&[(78, "b'")]), &["read 0 reads 1 nodes 1 errors 1"]),
+        ("a Str with a backslash, not read", row_of(&[(Str, "'\\'")]), &["outside literal"]),
+        ("a ByteStr above 127", row_of(&[(ByteStr, "b'é'")]), &["outside literal"]),
+        ("a Float that does not parse", row_of(&[(Float, "x")]), &["outside literal"]),
+        ("an Int that is a sign", row_of(&[(Int, "-")]), &["error int 1 0 1"]),
+        ("an Int of underscores", row_of(&[(Int, "__")]), &["error int 0 0 2"]),
+        ("the least integer as one Int", row_of(&[(Int, "-9223372036854775808")]), &["1 Int 0 20 -9223372036854775808"]),
+        ("one below it", row_of(&[(Int, "-9223372036854775809")]), &["error int 3 0 20"]),
+        ("a prefix behind an underscore", row_of(&[(Int, "0_x1")]), &["1 Int 0 4 1"]),
+        ("a kind of error", row_of(&[(UnterminatedByteStr, "b'")]), &["read 0 reads 1 nodes 1 errors 1"]),
     ]
 }
 

@@ -32,17 +32,23 @@ fn run(file: &str, rule: bool, kinds: &mut BTreeMap<String, u64>) -> Result<usiz
     Ok(bundles.len())
 }
 
-/// One line for each function: the places in order, each as line, what happens there, counts.
+/// A table row for each function: its places in order, each as line, what happens there, how often (+ how often by rule).
 fn table(domain: &[u64], marked: &[u64]) {
+    print!("| function | places |\n|---|---|");
     let mut function = "";
     for (i, (line, name, what)) in SITES.iter().enumerate() {
         if *name != function {
-            println!("\n`{name}`:");
-            function = name;
+            print!("{}\n| `{name}` | ", if function.is_empty() { "" } else { " |" });
+        } else {
+            print!(", ");
         }
-        let more = if marked[i] > 0 { format!("+{}", marked[i]) } else { String::new() };
-        println!("  {line} {what} {}{more}", domain[i]);
+        function = name;
+        print!("{line} {what} {}", domain[i]);
+        if marked[i] > 0 {
+            print!("+{}", marked[i]);
+        }
     }
+    println!(" |");
 }
 
 fn main() -> Result<(), Box<dyn Error>> {
@@ -55,15 +61,15 @@ fn main() -> Result<(), Box<dyn Error>> {
     let first = probe::hits();
     let others = run(marked, true, &mut kinds)?;
     let second: Vec<u64> = probe::hits().iter().zip(&first).map(|(all, one)| all - one).collect();
-    println!("{} places; {count} bundles in the domain, {others} marked", SITES.len());
+    println!("{} places; {count} bundles in the domain, {others} marked\n", SITES.len());
     table(&first, &second);
-    println!("\nNot reached:");
+    println!("\nNot reached:\n");
     for (i, (line, name, what)) in SITES.iter().enumerate() {
         if first[i] + second[i] == 0 {
-            println!("  {line} {what} ({name})");
+            println!("- {line} {what} (`{name}`)");
         }
     }
-    println!("\nLines of each kind:");
-    kinds.iter().for_each(|(kind, count)| println!("  {kind} {count}"));
+    let kinds: Vec<String> = kinds.iter().map(|(kind, count)| format!("{kind} {count}")).collect();
+    println!("\nLines of each kind, and parts that have no line: {}.", kinds.join(", "));
     Ok(())
 }

@@ -7,6 +7,7 @@
 //!   all LENGTH KIND ..            all lists of up to LENGTH tokens over the kinds given by number
 //!   texts FILE                    the lines of a file (`\n`, `\t`, `\r` and `\\` written so), cut by the original's lexer
 //!   entry SEED COUNT SIZE         bundles with a fault that the entry check or the lister finds, most of them
+//!   odd                           short lists that no lexer cuts: odd spellings of literals, trivia and gaps at the start
 //!   limits                        sheets just below and just above each limit of the lister
 
 use std::{env, error::Error, fs, io::{self, BufWriter, Write}};
@@ -19,7 +20,7 @@ use lucia::{
     damage::{all, any, damage, likely},
     entry::KINDS,
     grammatical::sheet,
-    spell::{Piece, Taste, lay, spell},
+    spell::{Piece, Taste, lay, odd, spell},
 };
 
 fn random(mode: &str, chance: &mut Chance, size: usize) -> Bundle {
@@ -197,6 +198,7 @@ fn main() -> Result<(), Box<dyn Error>> {
             }
             Vec::new()
         }
+        ["odd"] => odd(),
         ["limits"] => limits(),
         _ => return Err("sheets MODE .., see the first lines of its source".into()),
     };
