@@ -29,13 +29,8 @@ for name in derive_more thiserror; do
 done
 # The lints of the original are its own business.
 compile --crate-type rlib --crate-name lucia --cap-lints allow $externs "$target/lucia/lib.rs" --out-dir "$target/crates"
-# The same with nothing counted, for `speed`.
-mkdir -p "$target/plain"
-compile --crate-type rlib --crate-name lucia --cap-lints allow --cfg plain $externs "$target/lucia/lib.rs" --out-dir "$target/plain"
 for program in programs/*.rs; do
     name=$(basename "$program" .rs)
-    library=crates
-    [ "$name" != speed ] || library=plain
-    compile --crate-name "$name" "$program" --extern "lucia=$target/$library/liblucia.rlib" -o "$target/bin/$name"
+    compile --crate-name "$name" "$program" --extern "lucia=$target/crates/liblucia.rlib" -o "$target/bin/$name"
 done
 echo "built: $(ls "$target/bin" | tr '\n' ' ')"

@@ -1,10 +1,9 @@
 //! One bundle in, one listing out.
 
-use crate::bundle::Bundle;
+use crate::bundle::{Bundle, Word};
 use crate::compiler::{
     ast::Program, error::CompilerError, interning::Plain, lexer::tokenize, parser::parse_tokens,
 };
-use crate::bundle::Word;
 use crate::entry::{Sheet, enter};
 use crate::listing::Lines;
 use crate::probe::{self, Counts, End, Limits};
@@ -44,8 +43,15 @@ fn short(text: String, mark: Mark) -> Answer {
     Answer { text, mark, counts: Counts::default(), reading: None }
 }
 
-fn list(reading: &Reading, counts: Counts) -> String {
-    let mut lines = Lines::default();
+impl Answer {
+    /// The listing with what the records' flags and bare ranges tell; where there is no tree, the plain text.
+    pub fn with_words(&self) -> String {
+        self.reading.as_ref().map_or(self.text.clone(), |reading| list(reading, self.counts, true))
+    }
+}
+
+fn list(reading: &Reading, counts: Counts, words: bool) -> String {
+    let mut lines = Lines { words, ..Lines::default() };
     lines.program(&reading.0);
     assert_eq!(lines.count, counts.records, "one line for each record in use");
     reading.1.iter().for_each(|error| lines.error(error));
@@ -67,10 +73,13 @@ fn sheet(sheet: &Sheet, limits: Limits, rule: bool) -> Answer {
     if mark != Mark::None && !rule {
         return short(format!("outside {}\n", mark.word()), mark);
     }
-    let (result, counts) = probe::run(limits, rule, || parse_tokens(Plain, sheet.text, &sheet.tokens));
+    let (result, counts) = probe::run(limits, rule, || {
+        let (program, errors) = parse_tokens(Plain, sheet.text, &sheet.tokens);
+        (probe::built(program), errors)
+    });
     let mark = if counts.by_rule && mark == Mark::None { Mark::Attempt } else { mark };
     match result {
-        Ok(reading) => Answer { text: list(&reading, counts), mark, counts, reading: Some(reading) },
+        Ok(reading) => Answer { text: list(&reading, counts, false), mark, counts, reading: Some(reading) },
         Err(End::Refused(number)) => Answer { text: format!("refused {number}\n"), mark, counts, reading: None },
         Err(End::Attempt) => short("outside attempt\n".to_owned(), Mark::Attempt),
     }

@@ -1,5 +1,6 @@
 //! The lister's lines, from the original's own tree: one line for each record, a parent before its children, children in the
-//! order in which they are read.
+//! order in which they are read. With `words` a line goes on after ` ;` with what its record's flags and bare ranges tell: absent parts,
+//! lengths of lists, the value of a Bool, the form of a member or import, `glo`, `?` and `...`. The lister prints none of that.
 
 use std::{fmt::Write, num::IntErrorKind};
 
@@ -11,13 +12,73 @@ use crate::compiler::{ast::*, error::CompilerError};
 pub struct Lines {
     pub text: String,
     pub count: u64,
+    pub words: bool,
 }
 
 fn span(range: TextRange) -> String {
     format!("{} {}", u32::from(range.start()), u32::from(range.end()))
 }
 
+/// A bare range under its name, nothing where it is absent.
+fn bare(name: &str, range: &Option<TextRange>) -> String {
+    range.map_or(String::new(), |range| format!(" {name} {}", span(range)))
+}
+
+/// A name for a part that is there.
+fn part<T>(name: &str, part: &Option<T>) -> String {
+    if part.is_some() { format!(" {name}") } else { String::new() }
+}
+
+fn params<S>(params: &Params<S>) -> String {
+    format!(" params {}{}", params.params.len(), part("variadic", &params.variadic))
+}
+
+/// A member's form: the case without what it holds.
+fn form<S>(property: &MemberKind<S>) -> &'static str {
+    match property {
+        MemberKind::Bracket(_) => " Bracket",
+        MemberKind::Dot(_) => " Dot",
+        MemberKind::DoubleColon(_) => " DoubleColon",
+        MemberKind::BracketMeta => " BracketMeta",
+        MemberKind::DotMeta => " DotMeta",
+        MemberKind::DoubleColonMeta => " DoubleColonMeta",
+    }
+}
+
+/// What an expression's flags tell.
+fn flags<S>(kind: &ExprKind<S>) -> String {
+    match kind {
+        ExprKind::Fn { glo, name, .. } => part("name", name) + &bare("glo", glo),
+        ExprKind::Effect { glo, .. } => bare("glo", glo),
+        ExprKind::Table { properties } => format!(" properties {}", properties.len()),
+        ExprKind::List { items } => format!(" items {}", items.len()),
+        ExprKind::Member { property, safe, .. } => form(property).to_owned() + &bare("safe", safe),
+        ExprKind::Call { arguments, trailing_lambda, handlers, .. } => {
+            format!(" arguments {}{} handlers {}", arguments.len(), part("lambda", trailing_lambda), handlers.len())
+        }
+        ExprKind::If { alternate, .. } => part("alternate", alternate),
+        ExprKind::Match { cases, .. } => format!(" cases {}", cases.len()),
+        ExprKind::For { left, .. } => format!(" left {}", left.len()),
+        ExprKind::Import { path, kind, .. } => match kind {
+            ImportKind::Simple(alias) => format!(" path {} Simple{}", path.len(), part("alias", alias)),
+            ImportKind::Nested(items) => format!(" path {} Nested {}", path.len(), items.len()),
+            ImportKind::Glob => format!(" path {} Glob", path.len()),
+        },
+        ExprKind::AssignUnpack { left, .. } => format!(" left {}", left.len()),
+        ExprKind::AssignMulti { left, right } => format!(" left {} right {}", left.len(), right.len()),
+        _ => String::new(),
+    }
+}
+
 impl Lines {
+    /// Adds words to the line written last.
+    fn note(&mut self, words: &str) {
+        if self.words && !words.is_empty() {
+            self.text.pop();
+            writeln!(self.text, " ;{words}").expect("a string has room");
+        }
+    }
+
     fn line(&mut self, level: usize, kind: &str, range: TextRange) {
         self.count += 1;
         writeln!(self.text, "{level} {kind} {}", span(range)).expect("a string has room");
@@ -30,6 +91,7 @@ impl Lines {
 
     pub fn program<S>(&mut self, program: &Program<S>) {
         self.line(0, "Program", program.function.range);
+        self.note(&format!(" body {}", program.function.body.body.len()));
         self.exprs(1, &program.function.body.body);
     }
 
@@ -39,6 +101,7 @@ impl Lines {
 
     fn block<S>(&mut self, level: usize, block: &Block<S>) {
         self.line(level, "Block", block.range);
+        self.note(&format!(" body {}", block.body.len()));
         self.exprs(level + 1, &block.body);
     }
 
@@ -60,6 +123,9 @@ impl Lines {
             LitKind::Bytes(_) => "Bytes",
         };
         self.line(level, kind, lit.range);
+        if let LitKind::Bool(value) = lit.kind {
+            self.note(&format!(" {value}"));
+        }
     }
 
     fn typed_ident<S>(&mut self, level: usize, name: &TypedIdent<S>) {
@@ -78,6 +144,7 @@ impl Lines {
 
     fn function<S>(&mut self, level: usize, function: &Function<S>) {
         self.line(level, &format!("{:?}", function.kind), function.range);
+        self.note(&(params(&function.params) + &part("returns", &function.returns)));
         self.params(level + 1, &function.params);
         function.returns.iter().for_each(|ty| self.ty(level + 1, ty));
         self.block(level + 1, &function.body);
@@ -85,12 +152,14 @@ impl Lines {
 
     fn effect<S>(&mut self, level: usize, effect: &Effect<S>) {
         self.line(level, "Effect", effect.range);
+        self.note(&(params(&effect.params) + &part("returns", &effect.returns)));
         self.params(level + 1, &effect.params);
         effect.returns.iter().for_each(|ty| self.ty(level + 1, ty));
     }
 
     fn handler<S>(&mut self, level: usize, handler: &EffectHandler<S>) {
         self.line(level, "EffectHandler", handler.range);
+        self.note(&params(&handler.params));
         self.ident(level + 1, &handler.effect);
         self.params(level + 1, &handler.params);
         self.block(level + 1, &handler.body);
@@ -109,6 +178,7 @@ impl Lines {
             AssignLeftKind::Ident(name) => self.typed_ident(level, name),
             AssignLeftKind::Member { ident, property } => {
                 self.line(level, "Member", left.range);
+                self.note(form(property));
                 self.ident(level + 1, ident);
                 self.property(level + 1, property);
             }
@@ -123,6 +193,7 @@ impl Lines {
             ImportKind::Nested(items) => {
                 for item in items {
                     self.line(level, "ImportItem", item.range);
+                    self.note(&part("alias", &item.alias));
                     self.ident(level + 1, &item.name);
                     item.alias.iter().for_each(|alias| self.ident(level + 1, alias));
                 }
@@ -145,6 +216,7 @@ impl Lines {
         } else {
             self.detailed(level, kind, expr.range, &detail);
         }
+        self.note(&flags(&expr.kind));
         self.inside(level + 1, &expr.kind);
     }
 
@@ -239,6 +311,7 @@ impl Lines {
 
     fn match_case<S>(&mut self, level: usize, case: &MatchCase<S>) {
         self.line(level, "MatchCase", case.range);
+        self.note(&format!(" patterns {}", case.patterns.len()));
         case.patterns.iter().for_each(|pattern| self.pattern(level + 1, pattern));
         self.expr(level + 1, &case.body);
     }
@@ -247,16 +320,18 @@ impl Lines {
         match &pattern.kind {
             PatternKind::Lit(lit) => self.lit(level, lit),
             PatternKind::Ident(ident) => self.ident(level, ident),
-            PatternKind::Table { pairs, .. } => {
+            PatternKind::Table { pairs, others } => {
                 self.line(level, "Table", pattern.range);
+                self.note(&format!(" pairs {}{}", pairs.len(), bare("others", others)));
                 for pair in pairs {
                     self.line(level + 1, "TablePatternPair", pair.range);
                     self.lit(level + 2, &pair.key);
                     self.pattern(level + 2, &pair.value);
                 }
             }
-            PatternKind::List { items, .. } => {
+            PatternKind::List { items, others } => {
                 self.line(level, "List", pattern.range);
+                self.note(&format!(" items {}{}", items.len(), bare("others", others)));
                 items.iter().for_each(|item| self.pattern(level + 1, item));
             }
         }
@@ -272,6 +347,7 @@ impl Lines {
             }
             TyKind::Table { pairs, others } => {
                 self.line(level, "Table", ty.range);
+                self.note(&format!(" pairs {}{}", pairs.len(), part("others", others)));
                 for pair in pairs {
                     self.line(level + 1, "TableTyPair", pair.range);
                     self.ident(level + 2, &pair.key);
@@ -285,11 +361,14 @@ impl Lines {
             }
             TyKind::Function { params, variadic, returns } => {
                 self.line(level, "Function", ty.range);
+                let more = part("variadic", variadic) + &part("returns", returns);
+                self.note(&format!(" params {}{more}", params.len()));
                 params.iter().for_each(|ty| self.ty(level + 1, ty));
                 variadic.iter().chain(returns).for_each(|ty| self.ty(level + 1, ty));
             }
             TyKind::Union(types) => {
                 self.line(level, "Union", ty.range);
+                self.note(&format!(" types {}", types.len()));
                 types.iter().for_each(|ty| self.ty(level + 1, ty));
             }
         }

@@ -1,8 +1,6 @@
 //! What the patches call: the counts and limits of the document, and the numbered branches.
 //!
 //! Whatever ends a reading early unwinds out of the original's parser and is caught in `run`.
-//!
-//! Compiled with `--cfg plain` nothing is counted and nothing refused: what is left is the original, for measuring its speed.
 
 use std::{
     cell::Cell,
@@ -64,9 +62,6 @@ thread_local! {
 }
 
 fn change(f: impl FnOnce(&mut Counts)) -> Counts {
-    if cfg!(plain) {
-        return Counts::default();
-    }
     COUNTS.with(|cell| {
         let mut counts = cell.get();
         f(&mut counts);
@@ -80,7 +75,7 @@ fn end(how: End) -> ! {
 }
 
 fn refuse_past(count: u64, limit: impl Fn(Limits) -> u64, number: u8) {
-    if !cfg!(plain) && count > limit(LIMITS.get()) {
+    if count > limit(LIMITS.get()) {
         end(End::Refused(number));
     }
 }
@@ -129,7 +124,7 @@ impl Drop for Depth {
 
 /// The counts as they are now.
 pub fn mark() -> Counts {
-    change(|_| ())
+    COUNTS.get()
 }
 
 /// Node records built since `mark` are given back.
@@ -144,16 +139,13 @@ pub fn stain_rests(on: bool) {
 
 /// What an undone attempt that read something left in the live list is replaced by Unknown, for which nothing asks.
 pub fn stain(live: &mut [TokenKind], mark: &Counts) {
-    if !cfg!(plain) && STAIN.get() && COUNTS.get().readings > mark.readings {
+    if STAIN.get() && COUNTS.get().readings > mark.readings {
         live.fill(TokenKind::Unknown);
     }
 }
 
 /// Whether an attempt is to be undone. Answers the Rust's test inside the domain.
 pub fn undo(gave_node: bool, new_errors: bool, mark: &Counts) -> bool {
-    if cfg!(plain) {
-        return !gave_node || new_errors;
-    }
     if gave_node && new_errors {
         if !RULE.get() {
             end(End::Attempt);
@@ -175,9 +167,6 @@ fn expected(error: &CompilerError) -> u64 {
 
 /// An error is about to join the list.
 pub fn log(errors: &[CompilerError], error: &CompilerError) {
-    if cfg!(plain) {
-        return;
-    }
     refuse_past(errors.len() as u64 + 1, |l| l.errors, 8);
     refuse_past(errors.iter().chain([error]).map(expected).sum(), |l| l.expected, 8);
 }
@@ -263,9 +252,6 @@ pub fn hits() -> Vec<u64> {
 }
 
 pub fn hit(site: usize) {
-    if cfg!(plain) {
-        return;
-    }
     HITS[site].fetch_add(1, Relaxed);
 }
 

@@ -1,7 +1,7 @@
 //! prepare SRC ORACLE OUT: makes the folder OUT, in which the original's parser can be compiled.
 //!
-//! SRC holds the original sources (src/compiler, src/utils), ORACLE is this folder. The original's files are copied; parser.rs
-//! alone is changed on the way, by the named patches of patches.rs and the numbering of branches.rs.
+//! SRC holds the original sources (src/compiler, src/utils), ORACLE is this folder. The original's files are copied. parser.rs is there
+//! twice: as bare.rs with nothing but the way in, and changed by the named patches of patches.rs and the numbering of branches.rs.
 
 mod branches;
 mod edits;
@@ -58,7 +58,8 @@ fn main() -> Result<(), Box<dyn Error>> {
     let tokens = tokens::cut(&original);
     let mut edits = patches::edits(&original, &tokens)?;
     let sites = branches::edits(&original, &tokens, &mut edits);
-    fs::write(out.join("compiler/parser.rs"), edits::apply(&original, edits) + patches::WAY_IN)?;
+    fs::write(out.join("compiler/bare.rs"), original.clone() + patches::WAY_IN)?;
+    fs::write(out.join("compiler/parser.rs"), edits::apply(&original, edits) + patches::WAY_IN + patches::SCOPE)?;
     fs::write(out.join("sites.rs"), branches::table(&sites))?;
     Ok(())
 }

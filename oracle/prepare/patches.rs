@@ -106,13 +106,13 @@ const RANGED: [&str; 17] = [
 
 /// Named patch `way-in`: a token list may be handed over, where the original has a text cut by its own lexer.
 pub const WAY_IN: &str = "
-use crate::probe::Leaves as _;
-
 pub fn parse_tokens<S: StringInterner>(interner: S, input: &str, tokens: &[Token]) -> (Program<S::String>, Vec<CompilerError>) {
-    let (program, errors) = Parser::new(interner, input, tokens.iter().copied()).parse();
-    (crate::probe::built(program), errors)
+    Parser::new(interner, input, tokens.iter().copied()).parse()
 }
 ";
+
+/// What the numbered branches need in scope.
+pub const SCOPE: &str = "use crate::probe::Leaves as _;\n";
 
 pub fn edits(source: &str, tokens: &[Token]) -> Result<Vec<Edit>, String> {
     let mut edits = Vec::new();
@@ -139,7 +139,7 @@ pub fn edits(source: &str, tokens: &[Token]) -> Result<Vec<Edit>, String> {
     Ok(edits)
 }
 
-/// Program, its function and its body are one record, counted by the way in; so `parse` itself is passed over.
+/// Program, its function and its body are one record, counted by the caller; so `parse` itself is passed over.
 fn records(source: &str, tokens: &[Token], edits: &mut Vec<Edit>) {
     let word = |i: usize| &source[tokens[i].start..tokens[i].end];
     let after_parse = source.find("fn parse_exprs(").unwrap_or(0);

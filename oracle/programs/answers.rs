@@ -1,6 +1,6 @@
-//! answers [--rule] [--counts]: a stream of bundles on standard input, the stream of their listings on standard output.
+//! answers [--rule] [--words] [--counts]: a stream of bundles on standard input, the stream of their listings on standard output.
 //!
-//! With --rule the document's own rules answer outside the domain, as in `list`. --counts writes to standard error how many
+//! With --rule the document's own rules answer outside the domain, --words adds flags and bare ranges to the lines, as in `list`. --counts writes to standard error how many
 //! listings there were of each sort.
 
 use std::{collections::BTreeMap, io::{self, BufWriter, Write}};
@@ -25,7 +25,8 @@ fn main() -> io::Result<()> {
     for bundle in read_stream(io::stdin().lock())? {
         let answer = answer::bytes(&bundle, LISTER, has("--rule"));
         *sorts.entry(sort_of(&answer)).or_default() += 1;
-        write_piece(&mut out, answer.text.as_bytes())?;
+        let text = if has("--words") { answer.with_words() } else { answer.text };
+        write_piece(&mut out, text.as_bytes())?;
     }
     if has("--counts") {
         sorts.iter().for_each(|(sort, count)| eprintln!("{count:8} {sort}"));

@@ -1,7 +1,7 @@
-//! list [--rule] [--peaks] [--widest]: one bundle on standard input, its listing on standard output.
+//! list [--rule] [--words] [--peaks] [--widest]: one bundle on standard input, its listing on standard output.
 //!
 //! Outside the domain it prints `outside` with the reason. With --rule the document's own rules answer there, and the reason
-//! goes to standard error as a mark. --peaks writes the counts of the run to standard error. --widest reads with the most that any
+//! goes to standard error as a mark. With --words each line goes on with its record's flags and bare ranges. --peaks writes the counts of the run to standard error. --widest reads with the most that any
 //! caller can lend instead of what the lister lends.
 
 use std::io::{self, Read};
@@ -21,6 +21,6 @@ fn main() -> io::Result<()> {
     if has("--peaks") {
         eprintln!("{:?}", answer.counts);
     }
-    print!("{}", answer.text);
+    print!("{}", if has("--words") { answer.with_words() } else { answer.text });
     Ok(())
 }

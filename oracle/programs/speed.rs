@@ -1,11 +1,11 @@
-//! speed: how many tokens, trivia aside, the original reads in a second over the error-free bundles of a stream on standard input.
-//! Linked with the build in which nothing is counted.
+//! speed: how long the original takes for a token, trivia aside, over a stream of bundles inside the domain on standard input.
+//! It is the copy without patches; outside the domain it may never end.
 
 use std::{io, time::Instant};
 
 use lucia::{
     bundle::{Bundle, read_stream},
-    compiler::{interning::Plain, parser::parse_tokens},
+    compiler::{bare::parse_tokens, interning::Plain},
     entry::{Sheet, enter},
 };
 

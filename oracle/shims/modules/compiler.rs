@@ -1,6 +1,7 @@
 //! The parts of the compiler that the parser needs.
 
 pub mod ast;
+pub mod bare;
 pub mod error;
 pub mod index;
 pub mod interning;
