@@ -1,0 +1,23 @@
+#!/bin/sh
+# check.sh: builds the oracle, compares the known sheets, checks demand 3's sum on fresh sheets, and makes the stored answers again,
+# twice, which must come out byte for byte as they are stored. Needs LUCIA_SRC.
+set -eu
+cd "$(dirname "$0")"
+./build.sh
+target/bin/known
+{
+    target/bin/sheets limits
+    target/bin/sheets grammatical 11 30000 40
+    target/bin/sheets grammatical 12 2000 200
+    target/bin/sheets damaged 13 30000 40
+} | target/bin/readings
+for run in 1 2; do
+    ./answers.sh "target/again-$run" 2> /dev/null
+    for file in answers/*.bundles answers/*.listings; do
+        cmp "$file" "target/again-$run/$(basename "$file")"
+    done
+    echo "run $run: the stored answers came out byte for byte"
+done
+target/bin/reached answers/domain.bundles answers/marked.bundles > target/reached.md
+sed '1,/^<!-- reached -->$/d; /^<!-- end -->$/,$d' ../docs/ORACLE.md | diff - target/reached.md
+echo "the table of branches in docs/ORACLE.md is the one of the stored answers"

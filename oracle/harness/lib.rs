@@ -1,0 +1,15 @@
+//! The original's parser, fed with token lists, and what the document adds around it.
+
+pub mod answer;
+pub mod bundle;
+pub mod chance;
+pub mod compiler;
+pub mod cost;
+pub mod damage;
+pub mod entry;
+pub mod grammatical;
+pub mod listing;
+pub mod probe;
+pub mod sites;
+pub mod spell;
+pub mod utils;
