@@ -1,0 +1,94 @@
+-- What a form says of a place in a text, byte by byte: each way through `byte_in`, `follow` and `char_length`.
+use Prim.Native.Nat.{ℕ, zero, suc, _+_, _-_, _<_, _≤_, zero-le}
+use native.Mathlib.Omega.{arith}
+use native.Mathlib.Numerals.{add-one, sub-one}
+use mathlib.Core.Path.{_≡_, refl, sym, ap, _∙_}
+use mathlib.Core.Bool.{Bool, true, false, cond, _&&_, false≢true, true≢false}
+use mathlib.Core.Logic.{_⊎_, inl, inr, ⊎-elim}
+use mathlib.Core.List.{List, [], _∷_, List·Memᴰ}
+use lib.ListN.{length, getD, drop, replicate, drop-of-length-le}
+use lib.Seq.{drop-cons, drop-drop}
+use lib.Dec.{leb, ltb, lit<}
+use borrow.Author.Tests.{ltb-true, ltb-false}
+use Rattle.entry.specs.Utf8.{Range, Form, tail, between, forms, holds, fits, firstFit, charLength}
+use Rattle.entry.proofs.Forms.{holds-in, holds-below, holds-above, apart, parted, gap, only, nth}
+
+module _ (r : Range) (f : Form) (t : List ℕ) (k : ℕ) where
+  pub fits-past : length t ≤ k → fits (r ∷ f) (drop k t) ≡ false
+  unfolding fits
+  fits-past p = rw (drop-of-length-le t p)
+
+  pub fits-within : fits (r ∷ f) (drop k t) ≡ true → k < length t
+  fits-within e = go (ltb k (length t)) refl
+    where
+      go : (x : Bool) → ltb k (length t) ≡ x → k < length t
+      go true h = ltb-true _ _ h
+      go false h = absurd (true≢false (sym e ∙ fits-past (ltb-false _ _ h)))
+
+  pub fits-here : k < length t → fits (r ∷ f) (drop k t) ≡ holds r (getD t k 0) && fits f (drop (k + 1) t)
+  unfolding fits
+  fits-here p = rw (drop-cons t k 0 p, add-one)
+
+module _ (r : Range) (t : List ℕ) (k : ℕ) (p : k < length t) where
+  pub byte-below : getD t k 0 < r .low → fits (r ∷ []) (drop k t) ≡ false
+  byte-below q = fits-here r [] t k p ∙ rw (holds-below r _ q)
+
+  pub byte-above : r .high < getD t k 0 → fits (r ∷ []) (drop k t) ≡ false
+  byte-above q = fits-here r [] t k p ∙ rw (holds-above r _ q)
+
+  pub byte-there : r .low ≤ getD t k 0 → getD t k 0 ≤ r .high → fits (r ∷ []) (drop k t) ≡ true
+  unfolding fits
+  byte-there q s = fits-here r [] t k p ∙ rw (holds-in r _ q s)
+
+-- what the first byte alone says of a longer form
+module _ (r : Range) (f : Form) where
+  pub fits-first-not : (t : List ℕ) → fits (r ∷ []) t ≡ false → fits (r ∷ f) t ≡ false
+  unfolding fits
+  fits-first-not [] e = refl
+  fits-first-not (b ∷ t) e = go (holds r b) e
+    where
+      go : (x : Bool) → x && true ≡ false → x && fits f t ≡ false
+      go true h = absurd (true≢false h)
+      go false h = refl
+
+  fits-first : (t : List ℕ) → fits (r ∷ []) t ≡ true → fits (r ∷ f) t ≡ fits f (drop 1 t)
+  unfolding fits
+  fits-first [] e = absurd (false≢true e)
+  fits-first (b ∷ t) e = go (holds r b) e
+    where
+      go : (x : Bool) → x && true ≡ true → x && fits f t ≡ fits f t
+      go true h = refl
+      go false h = absurd (false≢true h)
+
+pub follow-last : (r : Range) (t : List ℕ) (n : ℕ) → n ≡ 0 → fits (r ∷ []) t ≡ true → fits (r ∷ replicate n tail) t ≡ true
+follow-last r t n z e = rw z e
+
+pub follow-more : (r : Range) (t : List ℕ) (k n : ℕ) → (n ≡ 0 → ⊥) → fits (r ∷ []) (drop k t) ≡ true
+    → fits (r ∷ replicate n tail) (drop k t) ≡ fits (tail ∷ replicate (n - 1) tail) (drop (k + 1) t)
+follow-more r t k zero z e = absurd (z refl)
+follow-more r t k (suc n) z e = fits-first r (replicate (suc n) tail) (drop k t) e ∙ rw (drop-drop 1 k t, sub-one)
+
+-- the character at a place, where its first byte starts a form, and where it starts none
+module _ (t : List ℕ) (k : ℕ) where
+  pub char-past : length t ≤ k → charLength (drop k t) ≡ 0
+  unfolding firstFit fits
+  char-past p = rw (drop-of-length-le t p)
+
+  -- row `k` of the syntax, counted from 0, whose first byte is from r .low to r .high
+  pub char-row : (i : ℕ) {r : Range} {f : Form} → getD forms i [] ≡ r ∷ f → i < length forms → k < length t → r .low ≤ getD t k 0 → getD t k 0 < suc (r .high)
+      → charLength (drop k t) ≡ cond (fits f (drop (k + 1) t)) (suc (length f)) 0
+  unfolding parted
+  char-row i {r} {f} e h p q s =
+      rw (drop-cons t k 0 p, add-one)
+      (only (getD t k 0) (drop (suc k) t) (r ∷ f) forms (rw e at (nth forms i h)) refl (holds-in r (getD t k 0) q (omega arith)))
+
+  pub char-ascii : k < length t → getD t k 0 < 0x80 → charLength (drop k t) ≡ 1
+  unfolding fits
+  char-ascii p q = char-row 0 refl (lit< tt) p zero-le q
+
+  pub char-none : (low high : ℕ) → apart low high forms ≡ true → k < length t → low ≤ getD t k 0 → getD t k 0 < suc high → charLength (drop k t) ≡ 0
+  char-none low high a p q s = rw (drop-cons t k 0 p) (gap low high (getD t k 0) q (omega arith) (drop (suc k) t) forms a)
+
+-- the answer that `char_length` gives by a row, from what its callees ensure
+pub by-row : (n : ℕ) {r : ℕ} {x y : Bool} {l : ℕ} → r ≡ cond x n 0 → x ≡ y → l ≡ cond y n 0 → r ≡ l
+by-row n p q e = p ∙ rw q (sym e)

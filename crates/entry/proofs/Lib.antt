@@ -1,0 +1,4 @@
+pub mod Logic
+pub mod Forms
+pub mod Fits
+pub mod Walk
