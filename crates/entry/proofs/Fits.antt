@@ -3,14 +3,14 @@ use Prim.Native.Nat.{ℕ, zero, suc, _+_, _-_, _<_, _≤_, zero-le}
 use native.Mathlib.Omega.{arith}
 use native.Mathlib.Numerals.{add-one, sub-one}
 use mathlib.Core.Path.{_≡_, refl, sym, ap, _∙_}
-use mathlib.Core.Bool.{Bool, true, false, cond, _&&_, false≢true, true≢false}
+use mathlib.Core.Bool.{Bool, true, false, cond, not, _&&_, false≢true, true≢false}
 use mathlib.Core.Logic.{_⊎_, inl, inr, ⊎-elim}
 use mathlib.Core.List.{List, [], _∷_, List·Memᴰ}
 use lib.ListN.{length, getD, drop, replicate, drop-of-length-le}
 use lib.Seq.{drop-cons, drop-drop}
 use lib.Dec.{leb, ltb, lit<}
 use borrow.Author.Tests.{ltb-true, ltb-false}
-use Rattle.entry.specs.Utf8.{Range, Form, tail, between, forms, holds, fits, firstFit, charLength}
+use Rattle.entry.specs.Utf8.{Range, Form, tail, between, forms, holds, fits, firstFit, charLength, noTail}
 use Rattle.entry.proofs.Forms.{holds-in, holds-below, holds-above, apart, parted, gap, only, nth}
 
 module _ (r : Range) (f : Form) (t : List ℕ) (k : ℕ) where
@@ -92,3 +92,7 @@ module _ (t : List ℕ) (k : ℕ) where
 -- the answer that `char_length` gives by a row, from what its callees ensure
 pub by-row : (n : ℕ) {r : ℕ} {x y : Bool} {l : ℕ} → r ≡ cond x n 0 → x ≡ y → l ≡ cond y n 0 → r ≡ l
 by-row n p q e = p ∙ rw q (sym e)
+
+pub no-tail : (t : List ℕ) (k : ℕ) {r : Bool} → r ≡ fits (tail ∷ []) (drop k t) → not r ≡ noTail t k
+unfolding noTail
+no-tail t k e = ap not e

@@ -1,6 +1,6 @@
 -- When a text and its tokens are fit to read, and the refusals 1 to 6.
 use Prim.Native.Nat.{ℕ, zero, suc, _-_, _/_}
-use mathlib.Core.Bool.{Bool, true, false, not, _&&_, _||_}
+use mathlib.Core.Bool.{Bool, true, false, cond, not, _&&_, _||_}
 use mathlib.Core.List.{List, [], _∷_}
 use lib.ListN.{length, getD}
 use lib.Dec.{leb, ltb, eqb}
@@ -58,7 +58,7 @@ badKind kind = ltb lastKind kind || eqb kind EOF
 
 -- 5: a range that is empty or ends before its start, leaves a text of `size` bytes, starts before the previous end, or cuts a character,
 -- where `at` tells the places between characters
-abbrev pub badRange : (ℕ → Bool) → ℕ → ℕ → ℕ → ℕ → Bool
+unfoldable pub badRange : (ℕ → Bool) → ℕ → ℕ → ℕ → ℕ → Bool
 badRange at size last start end = leb end start || ltb size end || ltb start last || not (at start) || not (at end)
 
 -- a quote: " or '
@@ -77,7 +77,8 @@ marked letter (b ∷ s) = eqb b letter && quoted s
 -- 6: a Str, RawStr or ByteStr whose bytes are not quoted, not so after an r, not so after a b
 unfoldable pub badQuotes : ℕ → List ℕ → Bool
 badQuotes kind s =
-    (eqb kind STR && not (quoted s)) || (eqb kind RAW-STR && not (marked 0x72 s)) || (eqb kind BYTE-STR && not (marked 0x62 s))
+    cond (eqb kind STR) (not (quoted s))
+    (cond (eqb kind RAW-STR) (not (marked 0x72 s)) (cond (eqb kind BYTE-STR) (not (marked 0x62 s)) false))
 
 -- a token after one that ended at `last`: 4, 5 and 6 in order
 unfoldable pub tokenFault : (ℕ → Bool) → List ℕ → ℕ → ℕ → ℕ → ℕ → Entry

@@ -1,8 +1,8 @@
 -- UTF-8 by the syntax of byte sequences of RFC 3629, section 4, and where its characters start.
 use Prim.Native.Nat.{ℕ, zero, suc}
-use mathlib.Core.Bool.{Bool, true, false, cond, _&&_}
+use mathlib.Core.Bool.{Bool, true, false, cond, not, _&&_}
 use mathlib.Core.List.{List, [], _∷_}
-use lib.ListN.{length}
+use lib.ListN.{length, drop}
 use lib.Dec.{leb, eqb}
 
 -- the bytes %xLOW-HIGH
@@ -67,3 +67,7 @@ boundary t k = arrives 0 t k
 -- UTF8-octets: whole characters make up the text
 abbrev pub isUtf8 : List ℕ → Bool
 isUtf8 t = boundary t (length t)
+
+-- whether no tail stands at place `k`. In a text that is UTF-8 these are the boundaries (`proofs/Places.antt`), and this is what the code tests
+unfoldable pub noTail : List ℕ → ℕ → Bool
+noTail t k = not (fits (tail ∷ []) (drop k t))
