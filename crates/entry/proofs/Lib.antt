@@ -4,3 +4,6 @@ pub mod Fits
 pub mod Walk
 pub mod Paths
 pub mod Places
+pub mod Grammar
+pub mod Sound
+pub mod Unique
