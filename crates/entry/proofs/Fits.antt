@@ -4,13 +4,12 @@ use native.Mathlib.Omega.{arith}
 use native.Mathlib.Numerals.{add-one, sub-one}
 use mathlib.Core.Path.{_≡_, refl, sym, ap, _∙_}
 use mathlib.Core.Bool.{Bool, true, false, cond, not, _&&_, false≢true, true≢false}
-use mathlib.Core.Logic.{_⊎_, inl, inr, ⊎-elim}
-use mathlib.Core.List.{List, [], _∷_, List·Memᴰ}
+use mathlib.Core.List.{List, [], _∷_}
 use lib.ListN.{length, getD, drop, replicate, drop-of-length-le}
 use lib.Seq.{drop-cons, drop-drop}
-use lib.Dec.{leb, ltb, lit<}
+use lib.Dec.{ltb, lit<}
 use borrow.Author.Tests.{ltb-true, ltb-false}
-use Rattle.entry.specs.Utf8.{Range, Form, tail, between, forms, holds, fits, firstFit, charLength, noTail}
+use Rattle.entry.specs.Utf8.{Range, Form, tail, forms, holds, fits, firstFit, charLength, noTail}
 use Rattle.entry.proofs.Forms.{holds-in, holds-below, holds-above, apart, parted, gap, only, nth}
 
 module _ (r : Range) (f : Form) (t : List ℕ) (k : ℕ) where

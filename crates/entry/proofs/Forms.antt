@@ -1,16 +1,14 @@
 -- The rows of UTF-8's syntax: a first byte belongs to one of them at most, and what that row says decides.
-use Prim.Native.Nat.{ℕ, zero, suc, _+_, _<_, _≤_}
+use Prim.Native.Nat.{ℕ, zero, suc, _<_, _≤_}
 use native.Mathlib.Omega.{arith}
-use native.Mathlib.Numerals.{add-one}
-use mathlib.Core.Path.{_≡_, refl, sym, ap, _∙_}
+use mathlib.Core.Path.{_≡_, refl, sym, _∙_}
 use mathlib.Core.Bool.{Bool, true, false, cond, _&&_, _||_, false≢true}
-use mathlib.Core.Logic.{_⊎_, inl, inr, ⊎-elim}
-use mathlib.Core.List.{List, [], _∷_, List·Memᴰ, List·Memᴰ·head, List·Memᴰ·tail, List·Memᴰ·cases-cons}
-use lib.ListN.{length, getD, drop, drop-of-length-le}
-use lib.Seq.{drop-cons}
+use mathlib.Core.Logic.{⊎-elim}
+use mathlib.Core.List.{List, [], _∷_, List·Memᴰ, List·Memᴰ·head, List·Memᴰ·tail}
+use lib.ListN.{length, getD}
 use lib.Dec.{leb, ltb}
 use borrow.Author.Tests.{ltb-true, leb-true, le-leb, lt-leb}
-use Rattle.entry.specs.Utf8.{Range, Form, forms, holds, fits, firstFit, charLength}
+use Rattle.entry.specs.Utf8.{Range, Form, holds, fits, firstFit}
 use Rattle.entry.proofs.Logic.{both, either}
 
 pub holds-in : (r : Range) (b : ℕ) → r .low ≤ b → b ≤ r .high → holds r b ≡ true

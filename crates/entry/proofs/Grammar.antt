@@ -1,15 +1,15 @@
 -- `boundary` and `isUtf8` decide the grammar: what derives a place between characters, and what derives a text.
-use Prim.Native.Nat.{ℕ, zero, suc, _+_, _-_, _<_, _≤_}
+use Prim.Native.Nat.{ℕ, zero, suc, _+_, _-_}
 use native.Mathlib.Omega.{arith}
 use mathlib.Core.Path.{_≡_, refl, sym, ap, _∙_}
-use mathlib.Core.Bool.{Bool, true, false, cond, _&&_, false≢true}
+use mathlib.Core.Bool.{Bool, true, false, cond, false≢true}
 use mathlib.Core.Logic.{_↔_}
 use mathlib.Core.List.{List, [], _∷_, _++_, List·Memᴰ, List·Memᴰ·head, List·Memᴰ·tail}
 use lib.ListN.{length, take, drop, length-append, take-append-drop}
 use lib.Seq.{length-take-le, drop-append-seam}
 use lib.Dec.{leb, eqb·suc-zero}
 use borrow.Author.Tests.{leb-true}
-use Rattle.entry.specs.Utf8.{Range, Form, forms, holds, fits, firstFit, charLength, arrives, boundary, isUtf8}
+use Rattle.entry.specs.Utf8.{Form, forms, holds, fits, firstFit, charLength, arrives, boundary, isUtf8}
 use Rattle.entry.specs.Grammar.{Spells, Character, Octets, Boundary}
 use Rattle.entry.proofs.Logic.{both}
 use Rattle.entry.proofs.Forms.{holds-in, apart, parted, only}

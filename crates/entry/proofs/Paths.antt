@@ -1,8 +1,7 @@
 -- Each way through the tests of a token, of the tokens and of the whole, as an equation of the rule.
-use Prim.Native.Nat.{ℕ, zero, suc, _+_, _-_, _/_, _<_, _≤_}
+use Prim.Native.Nat.{ℕ, suc, _+_, _-_, _/_, _<_, _≤_}
 use native.Mathlib.Omega.{arith}
-use native.Mathlib.Numerals.{add-one}
-use mathlib.Core.Path.{_≡_, refl, sym, ap, _∙_}
+use mathlib.Core.Path.{_≡_, refl, ap, _∙_}
 use mathlib.Core.Bool.{Bool, true, false, not, _||_}
 use mathlib.Core.List.{List, [], _∷_}
 use lib.ListN.{length, getD, take, drop, length-drop}
@@ -15,7 +14,6 @@ use Rattle.entry.specs.Check.{maxText, maxTokens, lastKind, EOF, STR, RA
 use Rattle.entry.proofs.Logic.{neither}
 use Rattle.entry.specs.declared.Refusal.{Refusal}
 use Rattle.entry.specs.declared.Refusal.the-variants.{TextTooLong, TooManyTokens, NotUtf8, BadKind, BadRange, BadQuotes}
-use Rattle.entry.specs.declared.Entry.{Entry}
 use Rattle.entry.specs.declared.Entry.the-variants.{Fit, Refused}
 
 pub kind-high : (k : ℕ) → lastKind < k → badKind k ≡ true

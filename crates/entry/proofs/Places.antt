@@ -1,16 +1,16 @@
 -- In a text that is UTF-8 the boundaries are the places where no tail stands, so both say the same of the tokens.
-use Prim.Native.Nat.{ℕ, zero, suc, _<_, _≤_}
+use Prim.Native.Nat.{ℕ, zero, suc, _≤_}
 use native.Mathlib.Omega.{arith}
-use mathlib.Core.Path.{_≡_, refl, sym, ap, _∙_}
-use mathlib.Core.Bool.{Bool, true, false, cond, not, _&&_, _||_, false≢true, true≢false}
+use mathlib.Core.Path.{_≡_, refl}
+use mathlib.Core.Bool.{Bool, true, false, cond, not, _&&_, _||_, false≢true}
 use mathlib.Core.List.{List, [], _∷_}
 use lib.ListN.{length, drop, replicate}
-use lib.Dec.{leb, ltb, eqb, eqb·suc-zero}
-use borrow.Author.Tests.{leb-true, leb-false, ltb-false, eqb-true}
-use Rattle.entry.specs.Utf8.{Range, Form, tail, forms, holds, fits, firstFit, charLength, arrives, boundary, isUtf8, noTail}
-use Rattle.entry.specs.Check.{badRange, tokenFault, tokensFault, orElse}
+use lib.Dec.{leb, ltb, eqb·suc-zero}
+use borrow.Author.Tests.{leb-true, leb-false, ltb-false}
+use Rattle.entry.specs.Utf8.{Form, tail, forms, holds, fits, firstFit, charLength, arrives, boundary, isUtf8, noTail}
+use Rattle.entry.specs.Check.{badRange, tokenFault, tokensFault}
 use Rattle.entry.proofs.Logic.{both, neither}
-use Rattle.entry.proofs.Forms.{holds-in, apart, gap}
+use Rattle.entry.proofs.Forms.{holds-in, gap}
 
 -- the bytes of a form after its first are tails
 tails : Form → Bool

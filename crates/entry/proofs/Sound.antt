@@ -1,19 +1,18 @@
 -- What is known once the answer is `Fit`.
-use Prim.Native.Nat.{ℕ, zero, suc, _+_, _-_, _*_, _/_, _<_, _≤_, min}
+use Prim.Native.Nat.{ℕ, zero, suc, _+_, _-_, _*_, _<_, _≤_}
 use native.Mathlib.Omega.{arith}
-use mathlib.Core.Path.{_≡_, refl, sym, ap, _∙_}
-use mathlib.Core.Bool.{Bool, true, false, cond, not, _&&_, _||_, false≢true, true≢false}
+use mathlib.Core.Path.{_≡_, refl, sym, _∙_}
+use mathlib.Core.Bool.{Bool, true, false, not, _&&_, false≢true}
 use mathlib.Core.List.{List, [], _∷_}
-use lib.ListN.{length, getD, take, drop, length-take, length-drop}
+use lib.ListN.{length, getD, drop, length-take}
 use lib.Dec.{leb, ltb, eqb}
 use borrow.Author.Tests.{leb-true, ltb-false, eqb-false, eqb-true, not-false}
 use Rattle.kinds.specs.Text.{part}
 use Rattle.entry.specs.Utf8.{boundary, isUtf8}
-use Rattle.entry.specs.Check.{number, maxText, maxTokens, lastKind, EOF, STR, RAW-STR, BYTE-STR, refuse, badKind, badRange, isQuote, quoted, marked, badQuotes, tokenFault, orElse, tokensFault, entryOf}
-use Rattle.entry.specs.Grammar.{Octets, Boundary}
+use Rattle.entry.specs.Check.{maxText, maxTokens, lastKind, EOF, STR, RAW-STR, BYTE-STR, refuse, badKind, badRange, isQuote, quoted, marked, badQuotes, tokenFault, orElse, tokensFault, entryOf}
 use Rattle.entry.specs.Sound.{kindOf, startOf, endOf, count, Token, Sheet}
 use Rattle.entry.proofs.Logic.{both, neither}
-use Rattle.entry.proofs.Paths.{InText, range-good, quotes-str, quotes-raw, quotes-byte}
+use Rattle.entry.proofs.Paths.{range-good, quotes-str, quotes-raw, quotes-byte}
 use Rattle.entry.proofs.Grammar.{boundary-sound, utf8-decides}
 use Rattle.entry.specs.declared.Refusal.{Refusal}
 use Rattle.entry.specs.declared.Entry.{Entry}

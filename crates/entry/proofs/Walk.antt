@@ -1,12 +1,12 @@
 -- Walking a text character by character: a turn of the loop of `is_utf8`, and its ends.
 use Prim.Native.Nat.{ℕ, zero, suc, _+_, _-_, _<_, _≤_, zero-le}
 use native.Mathlib.Omega.{arith}
-use mathlib.Core.Path.{_≡_, refl, sym, ap, _∙_}
-use mathlib.Core.Bool.{Bool, true, false, cond, _&&_, false≢true}
+use mathlib.Core.Path.{_≡_, refl, sym, _∙_}
+use mathlib.Core.Bool.{Bool, true, false, cond, false≢true}
 use mathlib.Core.List.{List, [], _∷_}
-use lib.ListN.{length, getD, drop, length-drop, drop-of-length-le}
+use lib.ListN.{length, drop, length-drop, drop-of-length-le}
 use lib.Seq.{drop-cons, drop-drop}
-use Rattle.entry.specs.Utf8.{Range, Form, forms, holds, fits, firstFit, charLength, arrives, isUtf8}
+use Rattle.entry.specs.Utf8.{Form, forms, holds, fits, firstFit, charLength, arrives, isUtf8}
 use Rattle.entry.proofs.Logic.{both}
 
 -- a character lies within the text

@@ -24,7 +24,7 @@ follow-at t = and 1 follow-kinds.ps (is 1 follow-kinds.ps μ-follow t) follow.Pr
 abbrev follow-below : ℕ → In 1 follow-kinds.ps
 follow-below t = and 1 follow-kinds.ps (falls 1 follow-kinds.ps _<_ μ-follow t) follow.Pre
 
--- src/lib.rt:67:9
+-- src/lib.rt:76:9
 follow-byte-in-requires : (t : ℕ) → follow-lts.Need-byte-in-requires (
   byte-in-reads.Asked,
   byte-in-reads.Learnt,
@@ -33,7 +33,7 @@ follow-byte-in-requires : (t : ℕ) → follow-lts.Need-byte-in-requires (
 ) (follow-at t) follow.Post
 follow-byte-in-requires t c κs = tt
 
--- src/lib.rt:68:9
+-- src/lib.rt:77:9
 follow-returns : (t : ℕ) → follow-lts.Need-returns (
   byte-in-reads.Asked,
   byte-in-reads.Learnt,
@@ -42,7 +42,7 @@ follow-returns : (t : ℕ) → follow-lts.Need-returns (
 ) (follow-at t) follow.Post
 follow-returns t c = sym (fit.fits-first-not _ _ _ (sym (c .before .byte-in .ensures) ∙ not-true _ (c .if1 .taken)))
 
--- src/lib.rt:71:9
+-- src/lib.rt:80:9
 follow-returns-2 : (t : ℕ) → follow-lts.Need-returns-2 (
   byte-in-reads.Asked,
   byte-in-reads.Learnt,
@@ -51,7 +51,7 @@ follow-returns-2 : (t : ℕ) → follow-lts.Need-returns-2 (
 ) (follow-at t) follow.Post
 follow-returns-2 t c = sym (fit.follow-last _ _ _ (c .if2 .taken) (sym (c .before .before .byte-in .ensures) ∙ not-false _ (c .before .if1 .left)))
 
--- src/lib.rt:73:16
+-- src/lib.rt:82:16
 follow-add-next : (t : ℕ) → follow-lts.Need-add-next (
   byte-in-reads.Asked,
   byte-in-reads.Learnt,
@@ -60,7 +60,7 @@ follow-add-next : (t : ℕ) → follow-lts.Need-add-next (
 ) (follow-at t) follow.Post
 follow-add-next t c = omega (arith, fit.fits-within _ _ (c .before .before .before .before .args .text .now) (c .before .before .before .before .args .at) (sym (c .before .before .byte-in .ensures) ∙ not-false _ (c .before .if1 .left)))
 
--- src/lib.rt:74:16
+-- src/lib.rt:83:16
 follow-sub-left : (t : ℕ) → follow-lts.Need-sub-left (
   byte-in-reads.Asked,
   byte-in-reads.Learnt,
@@ -69,7 +69,7 @@ follow-sub-left : (t : ℕ) → follow-lts.Need-sub-left (
 ) (follow-at t) follow.Post
 follow-sub-left t c = search needs
 
--- src/lib.rt:75:5
+-- src/lib.rt:84:5
 follow-follow-requires : (t : ℕ) → follow-lts.Need-follow-requires (
   byte-in-reads.Asked,
   byte-in-reads.Learnt,
@@ -78,7 +78,7 @@ follow-follow-requires : (t : ℕ) → follow-lts.Need-follow-requires (
 ) (follow-at t) follow.Post
 follow-follow-requires t c κs = (omega arith, tt)
 
--- src/lib.rt:64:1
+-- src/lib.rt:73:1
 follow-returns-3 : (t : ℕ) → follow-lts.Need-returns-3 (
   byte-in-reads.Asked,
   byte-in-reads.Learnt,

@@ -1,8 +1,7 @@
 use Rattle.entry.proofs.Paths as paths
-use borrow.Author.Needs.{needs}
-use mathlib.Core.Path.{refl, sym, ap, _∙_}
+use mathlib.Core.Path.{sym, ap, _∙_}
 use mathlib.Core.Bool.{not}
-use borrow.Author.Tests.{not-true, not-false}
+use borrow.Author.Needs.{needs}
 use Rattle.entry.proofs.bad_quotes.Statement.{statement}
 use Rattle.entry.proofs.bad_quotes.Tie as tie
 use Rattle.entry.proofs.bad_quotes.Reads as reads

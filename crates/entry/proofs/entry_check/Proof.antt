@@ -1,9 +1,9 @@
 use Rattle.entry.proofs.Paths as paths
 use Rattle.entry.proofs.Places.{boundary-no-tail, tokens-same}
 use Rattle.entry.specs.Utf8.{boundary, noTail}
-use borrow.Author.Needs.{needs}
 use borrow.Author.Tests.{not-true, not-false}
 use mathlib.Core.Path.{sym, _∙_}
+use borrow.Author.Needs.{needs}
 use Rattle.entry.proofs.entry_check.Statement.{statement}
 use Rattle.entry.proofs.entry_check.Tie as tie
 use Rattle.entry.proofs.entry_check.Reads as reads

@@ -1,7 +1,6 @@
-use Rattle.entry.proofs.Paths as paths
 use borrow.Author.Needs.{needs}
-use mathlib.Core.Path.{refl, sym, ap, _∙_}
-use borrow.Author.Tests.{not-true, not-false}
+use Rattle.entry.proofs.Paths as paths
+use mathlib.Core.Path.{sym}
 use Rattle.entry.proofs.is_quote.Statement.{statement}
 use Rattle.entry.proofs.is_quote.Tie as tie
 use Rattle.entry.proofs.is_quote.Reads as reads

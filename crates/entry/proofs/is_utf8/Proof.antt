@@ -1,6 +1,6 @@
+use borrow.Author.Needs.{needs}
 use Rattle.entry.proofs.Walk as walk
 use Rattle.entry.specs.Utf8.{isUtf8}
-use borrow.Author.Needs.{needs}
 use native.Mathlib.Omega.{arith}
 use lib.ListN.{length, drop}
 use Prim.Native.Nat.{_≤_, _-_, zero-le}
@@ -19,31 +19,31 @@ Inv-loop text at₀ at = (isUtf8 text ≡ isUtf8 (drop at text)) × (at ≤ leng
 abbrev μ-loop : tie.MeasureT-loop
 μ-loop text at₀ at = length text - at
 
--- src/lib.rt:132:5
+-- src/lib.rt:141:5
 loop-holds : tie.Need-loop-holds Inv-loop μ-loop
 loop-holds c = (refl, zero-le)
 
--- src/lib.rt:133:13
+-- src/lib.rt:142:13
 char-length-requires : tie.Need-char-length-requires Inv-loop μ-loop
 char-length-requires c κs = tt
 
--- src/lib.rt:135:13
+-- src/lib.rt:144:13
 returns : tie.Need-returns Inv-loop μ-loop
 returns c = sym (c .before .before .before .loop .inv .0 ∙ walk.utf8-bad (c .before .before .before .before .before .args .text .now) (c .before .before .before .loop .at) (c .before .before .loop-test .taken) (sym (c .before .char-length .ensures) ∙ c .if1 .taken))
 
--- src/lib.rt:137:9
+-- src/lib.rt:146:9
 add-at : tie.Need-add-at Inv-loop μ-loop
 add-at c = omega (arith, walk.char-room (c .before .before .before .before .before .args .text .now) (c .before .before .before .loop .at) (c .before .char-length .result) (c .before .before .before .loop .inv .1) (c .before .char-length .ensures))
 
--- src/lib.rt:132:5
+-- src/lib.rt:141:5
 loop-less : tie.Need-loop-less Inv-loop μ-loop
 loop-less c = omega (arith, (walk.char-room (c .before .before .before .before .before .args .text .now) (c .before .before .before .loop .at) (c .before .char-length .result) (c .before .before .before .loop .inv .1) (c .before .char-length .ensures)))
 
--- src/lib.rt:132:5
+-- src/lib.rt:141:5
 loop-again : tie.Need-loop-again Inv-loop μ-loop
 loop-again c = (c .before .before .before .loop .inv .0 ∙ walk.utf8-step (c .before .before .before .before .before .args .text .now) (c .before .before .before .loop .at) _ (c .before .before .loop-test .taken) (c .if1 .left) (c .before .char-length .ensures), (walk.char-room (c .before .before .before .before .before .args .text .now) (c .before .before .before .loop .at) (c .before .char-length .result) (c .before .before .before .loop .inv .1) (c .before .char-length .ensures)))
 
--- src/lib.rt:128:1
+-- src/lib.rt:137:1
 returns-2 : tie.Need-returns-2 Inv-loop μ-loop
 returns-2 c = sym (c .before .loop .inv .0 ∙ walk.utf8-end (c .before .before .before .args .text .now) (c .before .loop .at) (c .loop-test .left))
 

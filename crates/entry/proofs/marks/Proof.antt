@@ -1,7 +1,6 @@
 use Rattle.entry.proofs.Paths as paths
 use borrow.Author.Needs.{needs}
-use mathlib.Core.Path.{refl, sym, ap, _∙_}
-use borrow.Author.Tests.{not-true, not-false}
+use mathlib.Core.Path.{sym, _∙_}
 use Rattle.entry.proofs.marks.Statement.{statement}
 use Rattle.entry.proofs.marks.Tie as tie
 use Rattle.entry.proofs.marks.Reads as reads

@@ -1,8 +1,6 @@
 use Rattle.entry.proofs.Paths as paths
-use borrow.Author.Needs.{needs}
-use mathlib.Core.Path.{refl, sym, ap, _∙_}
-use borrow.Author.Tests.{not-true, not-false}
 use Rattle.entry.proofs.Fits as fit
+use borrow.Author.Needs.{needs}
 use Rattle.entry.proofs.no_tail.Statement.{statement}
 use Rattle.entry.proofs.no_tail.Tie as tie
 use Rattle.entry.proofs.no_tail.Reads as reads

@@ -1,6 +1,6 @@
 use Rattle.entry.proofs.Paths as paths
 use borrow.Author.Needs.{needs}
-use mathlib.Core.Path.{refl, sym, ap, _∙_}
+use mathlib.Core.Path.{sym, _∙_}
 use borrow.Author.Tests.{not-true, not-false}
 use Rattle.entry.proofs.quotes.Statement.{statement}
 use Rattle.entry.proofs.quotes.Tie as tie

@@ -1,11 +1,7 @@
 use Rattle.entry.proofs.Paths as paths
-use Rattle.entry.specs.Utf8.{noTail}
-use borrow.Author.Needs.{needs}
 use native.Mathlib.Omega.{arith}
-use lib.ListN.{length, drop}
-use Prim.Native.Nat.{_≤_, _-_, zero-le}
-use mathlib.Core.Path.{_≡_, refl, sym, ap, _∙_}
-use borrow.Author.Tests.{not-true, not-false}
+use mathlib.Core.Path.{sym, _∙_}
+use borrow.Author.Needs.{needs}
 use Rattle.entry.proofs.token_fault.Statement.{statement}
 use Rattle.entry.proofs.token_fault.Tie as tie
 use Rattle.entry.proofs.token_fault.Reads as reads

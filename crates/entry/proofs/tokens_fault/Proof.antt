@@ -4,9 +4,8 @@ use borrow.Author.Needs.{needs}
 use native.Mathlib.Omega.{arith}
 use lib.ListN.{length, drop}
 use Prim.Native.Nat.{_≤_, _-_, zero-le}
-use mathlib.Core.Path.{_≡_, refl, sym, ap, _∙_}
-use borrow.Author.Tests.{not-true, not-false}
-use Rattle.entry.specs.Check.{tokensFault, orElse}
+use mathlib.Core.Path.{_≡_, refl, sym, _∙_}
+use Rattle.entry.specs.Check.{tokensFault}
 use Rattle.entry.proofs.tokens_fault.Statement.{statement}
 use Rattle.entry.proofs.tokens_fault.Tie as tie
 use Rattle.entry.proofs.tokens_fault.Reads as reads
