@@ -59,13 +59,24 @@ module _ (r : Range) (f : Form) where
       go true h = refl
       go false h = absurd (false≢true h)
 
-pub follow-last : (r : Range) (t : List ℕ) (n : ℕ) → n ≡ 0 → fits (r ∷ []) t ≡ true → fits (r ∷ replicate n tail) t ≡ true
-follow-last r t n z e = rw z e
+-- the first byte is as the form says: the rest of the form decides, one place on
+pub follow-on : (r : Range) (f : Form) (t : List ℕ) (k : ℕ) → fits (r ∷ []) (drop k t) ≡ true → fits (r ∷ f) (drop k t) ≡ fits f (drop (k + 1) t)
+follow-on r f t k e = fits-first r f (drop k t) e ∙ rw (drop-drop 1 k t)
 
-pub follow-more : (r : Range) (t : List ℕ) (k n : ℕ) → (n ≡ 0 → ⊥) → fits (r ∷ []) (drop k t) ≡ true
-    → fits (r ∷ replicate n tail) (drop k t) ≡ fits (tail ∷ replicate (n - 1) tail) (drop (k + 1) t)
-follow-more r t k zero z e = absurd (z refl)
-follow-more r t k (suc n) z e = fits-first r (replicate (suc n) tail) (drop k t) e ∙ rw (drop-drop 1 k t, sub-one)
+-- the loop of `tails`, with `n` of them left
+module _ (t : List ℕ) (k : ℕ) where
+  pub tails-none : (n : ℕ) → n ≤ 0 → fits (replicate n tail) (drop k t) ≡ true
+  unfolding fits
+  tails-none zero z = refl
+  tails-none (suc n) z = absurd (omega arith)
+
+  pub tails-not : (n : ℕ) → 0 < n → fits (tail ∷ []) (drop k t) ≡ false → fits (replicate n tail) (drop k t) ≡ false
+  tails-not zero z e = absurd (omega arith)
+  tails-not (suc n) z e = fits-first-not tail (replicate n tail) (drop k t) e
+
+  pub tails-more : (n : ℕ) → 0 < n → fits (tail ∷ []) (drop k t) ≡ true → fits (replicate n tail) (drop k t) ≡ fits (replicate (n - 1) tail) (drop (k + 1) t)
+  tails-more zero z e = absurd (omega arith)
+  tails-more (suc n) z e = follow-on tail (replicate n tail) t k e ∙ rw sub-one
 
 -- the character at a place, where its first byte starts a form, and where it starts none
 module _ (t : List ℕ) (k : ℕ) where

@@ -69,6 +69,22 @@ fn byte_in(text: &[u8], at: usize, low: u8, high: u8) -> bool
     true
 }
 
+// Whether `count` tails stand from `at` on.
+fn tails(text: &[u8], at: usize, count: u8) -> bool
+    ensures { λ r. ⌜ r ≡ fits (replicate count tail) (drop at (now (text .entry))) ⌝ }
+{
+    let mut next = at;
+    let mut left = count;
+    while 0 < left {
+        if !byte_in(text, next, 0x80, 0xBF) {
+            return false;
+        }
+        next += 1;
+        left -= 1;
+    }
+    true
+}
+
 // Whether a byte from `low` to `high` stands at `at`, and `more` tails after it.
 fn follow(text: &[u8], at: usize, low: u8, high: u8, more: u8) -> bool
     ensures { λ r. ⌜ r ≡ fits (between low high ∷ replicate more tail) (drop at (now (text .entry))) ⌝ }
@@ -76,12 +92,7 @@ fn follow(text: &[u8], at: usize, low: u8, high: u8, more: u8) -> bool
     if !byte_in(text, at, low, high) {
         return false;
     }
-    if more == 0 {
-        return true;
-    }
-    let next = at + 1;
-    let left = more - 1;
-    follow(text, next, 0x80, 0xBF, left)
+    tails(text, at + 1, more)
 }
 
 // The length of a character whose first byte was seen, or 0 where the rest of it is not as it should be.

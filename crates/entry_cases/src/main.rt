@@ -168,12 +168,13 @@ fn judge(input: &[u8], text: &mut [u8], words: &mut [u32]) -> Tally {
     let mut wrong: u64 = 0;
     while at < input.len() {
         let case = read_case(input, text, words, at);
-        wrong += missed(text, words, case, input[at]);
-        cases += 1;
         let next = case.next;
-        if next <= at {
+        // a case that is cut short does not count
+        if next <= at || input.len() < next {
             return Tally { cases, wrong };
         }
+        wrong += missed(text, words, case, input[at]);
+        cases += 1;
         at = next;
     }
     Tally { cases, wrong }

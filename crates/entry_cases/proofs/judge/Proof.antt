@@ -26,33 +26,33 @@ loop-holds c = (zero-le, zero-le, refl, refl)
 read-case-requires : tie.Need-read-case-requires Inv-loop μ-loop
 read-case-requires c κs = tt
 
--- src/main.rt:171:44
+-- src/main.rt:174:13
+same-length : tie.Need-same-length Inv-loop μ-loop
+same-length c = c .before .before .before .before .before .read-case .kept .1 .0 ∙ c .before .before .before .before .before .before .before .before .before .loop .inv .2
+
+-- src/main.rt:174:13
+same-length-2 : tie.Need-same-length-2 Inv-loop μ-loop
+same-length-2 c = c .before .before .before .before .before .read-case .kept .1 .1 .0 ∙ c .before .before .before .before .before .before .before .before .before .loop .inv .3
+
+-- src/main.rt:174:13
+returns : tie.Need-returns Inv-loop μ-loop
+returns c = search needs
+
+-- src/main.rt:176:44
 shared-slice-read-missed : tie.Need-shared-slice-read-missed Inv-loop μ-loop
 shared-slice-read-missed c = search needs
 
--- src/main.rt:171:18
+-- src/main.rt:176:18
 missed-requires : tie.Need-missed-requires Inv-loop μ-loop
 missed-requires c κs = tt
 
--- src/main.rt:171:9
+-- src/main.rt:176:9
 add-wrong : tie.Need-add-wrong Inv-loop μ-loop
 add-wrong c = search needs
 
--- src/main.rt:172:9
+-- src/main.rt:177:9
 add-cases : tie.Need-add-cases Inv-loop μ-loop
 add-cases c = search needs
-
--- src/main.rt:175:13
-same-length : tie.Need-same-length Inv-loop μ-loop
-same-length c = c .before .before .before .before .before .before .before .before .before .read-case .kept .1 .0 ∙ c .before .before .before .before .before .before .before .before .before .before .before .before .before .loop .inv .2
-
--- src/main.rt:175:13
-same-length-2 : tie.Need-same-length-2 Inv-loop μ-loop
-same-length-2 c = c .before .before .before .before .before .before .before .before .before .read-case .kept .1 .1 .0 ∙ c .before .before .before .before .before .before .before .before .before .before .before .before .before .loop .inv .3
-
--- src/main.rt:175:13
-returns : tie.Need-returns Inv-loop μ-loop
-returns c = search needs
 
 -- src/main.rt:169:5
 loop-less : tie.Need-loop-less Inv-loop μ-loop
@@ -60,7 +60,7 @@ loop-less c = search needs
 
 -- src/main.rt:169:5
 loop-again : tie.Need-loop-again Inv-loop μ-loop
-loop-again c = (omega arith, omega arith, c .before .before .before .before .before .before .before .before .before .read-case .kept .1 .0 ∙ c .before .before .before .before .before .before .before .before .before .before .before .before .before .loop .inv .2, c .before .before .before .before .before .before .before .before .before .read-case .kept .1 .1 .0 ∙ c .before .before .before .before .before .before .before .before .before .before .before .before .before .loop .inv .3)
+loop-again c = (omega arith, omega arith, c .before .before .before .before .before .before .before .before .before .before .read-case .kept .1 .0 ∙ c .before .before .before .before .before .before .before .before .before .before .before .before .before .before .loop .inv .2, c .before .before .before .before .before .before .before .before .before .before .read-case .kept .1 .1 .0 ∙ c .before .before .before .before .before .before .before .before .before .before .before .before .before .before .loop .inv .3)
 
 -- src/main.rt:165:1
 same-length-3 : tie.Need-same-length-3 Inv-loop μ-loop
@@ -82,13 +82,13 @@ judge-spec =
     μ-loop
     loop-holds
     read-case-requires
+    same-length
+    same-length-2
+    returns
     shared-slice-read-missed
     missed-requires
     add-wrong
     add-cases
-    same-length
-    same-length-2
-    returns
     loop-less
     loop-again
     same-length-3
