@@ -78,28 +78,30 @@ module _ (t : List ℕ) (k : ℕ) where
   tails-more zero z e = absurd (omega arith)
   tails-more (suc n) z e = follow-on tail (replicate n tail) t k e ∙ rw sub-one
 
--- the character at a place, where its first byte starts a form, and where it starts none
+-- the character that starts with `b`: by row `i` of the syntax, counted from 0, where `b` is in its first range, and none where `b` is in no row's
+module _ (b : ℕ) (t : List ℕ) where
+  pub char-row : (i : ℕ) {r : Range} {f : Form} → getD forms i [] ≡ r ∷ f → i < length forms → r .low ≤ b → b ≤ r .high
+      → charLength (b ∷ t) ≡ cond (fits f t) (suc (length f)) 0
+  unfolding parted
+  char-row i {r} {f} e h p q = only b t (r ∷ f) forms (rw e at (nth forms i h)) refl (holds-in r b p q)
+
+  pub char-ascii : b ≤ 0x7F → charLength (b ∷ t) ≡ 1
+  unfolding fits
+  char-ascii q = char-row 0 refl (lit< tt) zero-le q
+
+  pub char-none : (low high : ℕ) → apart low high forms ≡ true → low ≤ b → b ≤ high → charLength (b ∷ t) ≡ 0
+  char-none low high a p q = gap low high b p q t forms a
+
+-- the character at a place
 module _ (t : List ℕ) (k : ℕ) where
   pub char-past : length t ≤ k → charLength (drop k t) ≡ 0
   unfolding firstFit fits
   char-past p = rw (drop-of-length-le t p)
 
-  -- row `k` of the syntax, counted from 0, whose first byte is from r .low to r .high
-  pub char-row : (i : ℕ) {r : Range} {f : Form} → getD forms i [] ≡ r ∷ f → i < length forms → k < length t → r .low ≤ getD t k 0 → getD t k 0 < suc (r .high)
-      → charLength (drop k t) ≡ cond (fits f (drop (k + 1) t)) (suc (length f)) 0
-  unfolding parted
-  char-row i {r} {f} e h p q s =
-      rw (drop-cons t k 0 p, add-one)
-      (only (getD t k 0) (drop (suc k) t) (r ∷ f) forms (rw e at (nth forms i h)) refl (holds-in r (getD t k 0) q (omega arith)))
+  pub char-here : k < length t → charLength (drop k t) ≡ charLength (getD t k 0 ∷ drop (k + 1) t)
+  char-here p = rw (drop-cons t k 0 p, add-one)
 
-  pub char-ascii : k < length t → getD t k 0 < 0x80 → charLength (drop k t) ≡ 1
-  unfolding fits
-  char-ascii p q = char-row 0 refl (lit< tt) p zero-le q
-
-  pub char-none : (low high : ℕ) → apart low high forms ≡ true → k < length t → low ≤ getD t k 0 → getD t k 0 < suc high → charLength (drop k t) ≡ 0
-  char-none low high a p q s = rw (drop-cons t k 0 p) (gap low high (getD t k 0) q (omega arith) (drop (suc k) t) forms a)
-
--- the answer that `char_length` gives by a row, from what its callees ensure
+-- the answer that `row_length` gives by a row, from what its callees ensure
 pub by-row : (n : ℕ) {r : ℕ} {x y : Bool} {l : ℕ} → r ≡ cond x n 0 → x ≡ y → l ≡ cond y n 0 → r ≡ l
 by-row n p q e = p ∙ rw q (sym e)
 

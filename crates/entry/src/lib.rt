@@ -102,46 +102,33 @@ fn whole(length: usize, complete: bool) -> usize
     if complete { length } else { 0 }
 }
 
-// The length of the character that starts at `at`, by the rows of RFC 3629, section 4; 0 where none does.
+// The length of the character that starts with `b` and goes on at `next`, by the rows of RFC 3629, section 4; 0 where there is none.
+fn row_length(text: &[u8], next: usize, b: u8) -> usize
+    ensures { λ r. ⌜ r ≡ charLength (b ∷ drop next (now (text .entry))) ⌝ }
+{
+    match b {
+        0x00..=0x7F => 1,
+        0xC2..=0xDF => whole(2, follow(text, next, 0x80, 0xBF, 0)),
+        0xE0..=0xE0 => whole(3, follow(text, next, 0xA0, 0xBF, 1)),
+        0xE1..=0xEC => whole(3, follow(text, next, 0x80, 0xBF, 1)),
+        0xED..=0xED => whole(3, follow(text, next, 0x80, 0x9F, 1)),
+        0xEE..=0xEF => whole(3, follow(text, next, 0x80, 0xBF, 1)),
+        0xF0..=0xF0 => whole(4, follow(text, next, 0x90, 0xBF, 2)),
+        0xF1..=0xF3 => whole(4, follow(text, next, 0x80, 0xBF, 2)),
+        0xF4..=0xF4 => whole(4, follow(text, next, 0x80, 0x8F, 2)),
+        _ => 0,
+    }
+}
+
+// The length of the character that starts at `at`; 0 where none does.
 fn char_length(text: &[u8], at: usize) -> usize
     ensures { λ r. ⌜ r ≡ charLength (drop at (now (text .entry))) ⌝ }
 {
-    if text.len() <= at {
-        return 0;
+    if at < text.len() {
+        row_length(text, at + 1, text[at])
+    } else {
+        0
     }
-    let b = text[at];
-    if b < 0x80 {
-        return 1;
-    }
-    if b < 0xC2 {
-        return 0;
-    }
-    let next = at + 1;
-    if b < 0xE0 {
-        return whole(2, follow(text, next, 0x80, 0xBF, 0));
-    }
-    if b < 0xE1 {
-        return whole(3, follow(text, next, 0xA0, 0xBF, 1));
-    }
-    if b < 0xED {
-        return whole(3, follow(text, next, 0x80, 0xBF, 1));
-    }
-    if b < 0xEE {
-        return whole(3, follow(text, next, 0x80, 0x9F, 1));
-    }
-    if b < 0xF0 {
-        return whole(3, follow(text, next, 0x80, 0xBF, 1));
-    }
-    if b < 0xF1 {
-        return whole(4, follow(text, next, 0x90, 0xBF, 2));
-    }
-    if b < 0xF4 {
-        return whole(4, follow(text, next, 0x80, 0xBF, 2));
-    }
-    if b < 0xF5 {
-        return whole(4, follow(text, next, 0x80, 0x8F, 2));
-    }
-    0
 }
 
 // Whether the text is whole characters from its start to its end.
