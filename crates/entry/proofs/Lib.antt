@@ -1,0 +1,9 @@
+pub mod Logic
+pub mod Forms
+pub mod Fits
+pub mod Walk
+pub mod Paths
+pub mod Places
+pub mod Grammar
+pub mod Sound
+pub mod Unique

@@ -1,0 +1,4 @@
+pub mod Utf8
+pub mod Grammar
+pub mod Check
+pub mod Sound
