@@ -1,0 +1,3 @@
+-- What the proofs of several functions use, and what is proved of the definitions.
+mod Paths
+mod Run
