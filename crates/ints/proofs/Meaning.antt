@@ -1,9 +1,8 @@
 -- What is known of every answer: it is a number exactly where the bytes spell one that i64 has, and it is that number; and a fault is that of
 -- the first place from the left that is wrong.
-use Prim.Native.Nat.{ℕ, zero, suc, _+_, _-_, _*_, _^_, _<_, _≤_}
+use Prim.Native.Nat.{ℕ, zero, suc, _+_, _*_, _^_, _<_, _≤_}
 use mathlib.Core.Path.{_≡_, refl, sym, ap, _∙_}
 use mathlib.Core.List.{List, [], _∷_, _++_, map}
-use native.Mathlib.Numerals.{add-one}
 use native.Mathlib.Decide.{decLe, decLt}
 use native.Mathlib.Nat.{add-zero, add-suc, suc-add, add-mul, mul-assoc, zero-mul, zero-add, one-le-pow, le-mul-of-pos-right}
 use native.Mathlib.Omega.{arith}
@@ -12,13 +11,11 @@ use lib.ListN.{length, getD, take, drop, length-append, take-append-drop}
 use lib.Seq.{take-length}
 use lib.IntN.{ℤ}
 use Rattle.ints.specs.Spelling.{kept, radixOf, afterPrefix, signBy, afterSign, digitOf, valueOf}
-use Rattle.ints.specs.Answer.{largest, beyond, Found, right, wrong, judged, foundAt, firstOf, answered, numberOf, afterwards, fromStrRadix, intOf}
-use Rattle.ints.specs.Meaning.{signed, Meaning, number, fault, meant, signOf, digitsOf, magnitudeOf, Spells}
+use Rattle.ints.specs.Answer.{largest, Found, right, wrong, judged, foundAt, firstOf, answered, numberOf, afterwards, fromStrRadix, intOf}
+use Rattle.ints.specs.Meaning.{signed, number, meant, signOf, magnitudeOf, Spells}
 use Rattle.ints.specs.declared.Sign.{Sign}
 use Rattle.ints.specs.declared.Sign.the-variants.{Absent, Plus, Minus}
 use Rattle.ints.specs.declared.IntFault.{IntFault}
-use Rattle.ints.specs.declared.IntFault.the-variants.{Empty, InvalidDigit}
-use Rattle.ints.specs.declared.IntAnswer.{IntAnswer}
 use Rattle.ints.specs.declared.IntAnswer.the-variants.{Value, Fault}
 use Rattle.ints.proofs.Paths.{radix-usable}
 use Rattle.ints.proofs.Run as runs

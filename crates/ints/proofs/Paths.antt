@@ -1,17 +1,17 @@
 -- Each way through the definitions of a spelling, as an equation.
-use Prim.Native.Nat.{ℕ, zero, suc, _+_, _-_, _<_, _≤_, min}
-use mathlib.Core.Path.{_≡_, refl, sym, ap, _∙_}
+use Prim.Native.Nat.{ℕ, _+_, _-_, _<_, _≤_, min}
+use mathlib.Core.Path.{_≡_, refl, sym, _∙_}
 use mathlib.Core.List.{List, [], _∷_}
 use mathlib.Core.Bool.{Bool, true, false, _&&_}
 use native.Mathlib.Numerals.{add-one}
 use native.Mathlib.Decide.{decLe}
 use lib.Dec.{leb, eqb}
-use lib.ListN.{length, getD, take, drop, length-take, length-drop, drop-of-length-le}
+use lib.ListN.{length, getD, take, drop, length-drop, drop-of-length-le}
 use lib.Seq.{drop-cons, take-all, take-nil}
 use borrow.Author.Tests.{le-leb, lt-leb, ne-eqb}
 use native.Mathlib.Omega.{arith}
 use Rattle.kinds.specs.Text.{part}
-use Rattle.ints.specs.Spelling.{kept, radixBy, radixOf, afterPrefix, signBy, afterSign, within, digitOf}
+use Rattle.ints.specs.Spelling.{kept, radixBy, radixOf, afterPrefix, signBy, within, digitOf}
 use Rattle.ints.specs.Answer.{numberOf, afterwards, fromStrRadix, intOf}
 use Rattle.ints.specs.declared.Sign.{Sign}
 use Rattle.ints.specs.declared.Sign.the-variants.{Absent, Plus, Minus}

@@ -1,14 +1,15 @@
 -- The number read digit by digit, each time the number so far times the radix and the digit, is the number that the definition gives.
-use Prim.Native.Nat.{ℕ, zero, suc, _+_, _-_, _*_, _/_, _^_, _<_, _≤_}
+use Prim.Native.Nat.{ℕ, suc, _+_, _-_, _*_, _/_, _^_, _<_, _≤_}
 use mathlib.Core.Path.{_≡_, refl, sym, ap, _∙_}
 use mathlib.Core.List.{List, [], _∷_, _++_, map, append-nil, append-assoc}
-use mathlib.Core.Bool.{Bool, true, false}
+use mathlib.Core.Bool.{Bool, true, false, not}
+use native.Mathlib.Decide.{decLe}
 use native.Mathlib.Numerals.{add-one}
-use native.Mathlib.Nat.{add-mul, mul-assoc, mul-comm, pow-zero, pow-succ', mul-one, add-zero, zero-add, zero-mul, div-lt-iff-lt-mul, le-div-iff-mul-le}
-use lib.Dec.{ltb, leb}
-use lib.ListN.{length, getD, take, drop, length-append}
+use native.Mathlib.Nat.{add-mul, mul-assoc, mul-comm, pow-zero, pow-succ', mul-one, add-zero, zero-add, zero-mul, mul-le-mul-left, div-lt-iff-lt-mul, le-div-iff-mul-le}
+use lib.Dec.{leb}
+use lib.ListN.{length, take, length-append}
 use lib.Seq.{getD-append-seam}
-use borrow.Author.Tests.{lt-ltb, le-ltb, le-leb, lt-leb}
+use borrow.Author.Tests.{lt-ltb, le-ltb, le-leb, lt-leb, leb-true, leb-false, not-true, not-false}
 use native.Mathlib.Omega.{arith}
 use Rattle.ints.specs.Spelling.{digitOf, valueOf}
 use Rattle.ints.specs.Answer.{largest, beyond, Found, right, wrong, judged, foundAt, firstOf, answered, numberOf}
@@ -105,15 +106,25 @@ module _ (radix : ℕ) (sign : Sign) where
   unfolding numberOf rest valueOf
   run-all bs = sym (run-rest [] bs)
 
--- what a division tells of a product
-module _ (limit : ℕ) {radix : ℕ} (some : 1 < radix) (size : ℕ) where
-  pub too-much : limit / radix < size → limit < size * radix
-  too-much p = div-lt-iff-lt-mul {k = radix} (omega arith) .0 p
+-- whether a product is within a limit, by a bound or by a division
+module _ (limit radix size : ℕ) where
+  pub room-small : radix ≤ 16 → 2 ^ 63 - 1 ≤ limit → size < 2 ^ 59 → true ≡ leb (size * radix) limit
+  room-small p q r = sym (le-leb (size * radix) limit (omega (arith, mul-le-mul-left size p)))
 
-  pub not-too-much : size ≤ limit / radix → size * radix ≤ limit
-  not-too-much p = le-div-iff-mul-le {k = radix} (omega arith) .0 p
+  pub room-large : 1 < radix → leb size (limit / radix) ≡ leb (size * radix) limit
+  room-large p = by-quotient (decLe size (limit / radix))
+    where
+      by-quotient : Dec (size ≤ limit / radix) → leb size (limit / radix) ≡ leb (size * radix) limit
+      by-quotient (yes h) = le-leb _ _ h ∙ sym (le-leb (size * radix) limit (le-div-iff-mul-le {k = radix} (omega arith) .0 h))
+      by-quotient (no h) = lt-leb size (limit / radix) (omega arith) ∙ sym (lt-leb (size * radix) limit (div-lt-iff-lt-mul {k = radix} (omega arith) .0 (omega arith)))
 
-pub largest-fits : (sign : Sign) → largest sign ≤ 2 ^ 63
-largest-fits Absent = omega arith
-largest-fits Plus = omega arith
-largest-fits Minus = omega arith
+  pub there-is-room : {t : Bool} → t ≡ leb (size * radix) limit → not t ≡ false → size * radix ≤ limit
+  there-is-room {t} p q = leb-true (size * radix) limit (sym p ∙ not-false t q)
+
+  pub there-is-none : {t : Bool} → t ≡ leb (size * radix) limit → not t ≡ true → limit < size * radix
+  there-is-none {t} p q = leb-false (size * radix) limit (sym p ∙ not-true t q)
+
+pub largest-about : (sign : Sign) → (2 ^ 63 - 1 ≤ largest sign) × (largest sign ≤ 2 ^ 63)
+largest-about Absent = omega arith
+largest-about Plus = omega arith
+largest-about Minus = omega arith

@@ -1,7 +1,7 @@
 -- What a spelling is answered with.
 use Prim.Native.Nat.{ℕ, zero, suc, _-_, _^_}
 use mathlib.Core.List.{List, [], _∷_, map}
-use mathlib.Core.Bool.{Bool, true, false}
+use mathlib.Core.Bool.{true, false}
 use lib.ListN.{length, getD, take}
 use lib.Dec.{leb, ltb}
 use Rattle.ints.specs.Spelling.{kept, radixOf, afterPrefix, signBy, afterSign, digitOf, valueOf}

@@ -1,11 +1,11 @@
 -- What an answer means, and what a spelling means, each said without the other.
-use Prim.Native.Nat.{ℕ, _<_, _≤_}
+use Prim.Native.Nat.{ℕ, _<_}
 use mathlib.Core.Path.{_≡_}
-use mathlib.Core.List.{List, [], map}
+use mathlib.Core.List.{List, map}
 use lib.ListN.{length, getD}
 use lib.IntN.{ℤ, pos, negℤ}
 use Rattle.ints.specs.Spelling.{kept, radixOf, afterPrefix, signBy, afterSign, digitOf, valueOf}
-use Rattle.ints.specs.Answer.{largest, faultNumber}
+use Rattle.ints.specs.Answer.{faultNumber}
 use Rattle.ints.specs.declared.Sign.{Sign}
 use Rattle.ints.specs.declared.Sign.the-variants.{Absent, Plus, Minus}
 use Rattle.ints.specs.declared.IntAnswer.{IntAnswer}

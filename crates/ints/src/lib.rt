@@ -1,6 +1,7 @@
 // An integer's spelling to its sign and magnitude, or to its fault, read from the text where it stands.
 ghost use mathlib.Core.Path.{_≡_};
-ghost use Prim.Native.Nat.{_<_, _≤_, min};
+ghost use Prim.Native.Nat.{_-_, _*_, _^_, _<_, _≤_, min};
+ghost use lib.Dec.{leb};
 ghost use lib.ListN.{drop};
 ghost use Rattle.kinds.specs.Text.{part};
 ghost use Rattle.ints.specs.Spelling.{kept, digitOf, radixBy, radixOf, afterPrefix};
@@ -89,13 +90,23 @@ fn beyond_of(sign: Sign) -> IntFault
     }
 }
 
-// The digits from `first` on. `most` is what can still be multiplied by the radix, so that no product leaves 64 bits.
+// Whether one more place keeps the number within the limit. Few numbers are so large that this takes a division.
+fn has_room(limit: u64, radix: u64, size: u64) -> bool
+    requires { ⌜ (1 < radix) × (radix ≤ 16) × (2 ^ 63 - 1 ≤ limit) ⌝ }
+    ensures { λ r. ⌜ r ≡ leb (size * radix) limit ⌝ }
+{
+    if size < 0x0800_0000_0000_0000 {
+        return true;
+    }
+    size <= limit / radix
+}
+
+// The digits from `first` on.
 fn number(s: &[u8], first: Next, radix: u64, sign: Sign) -> IntAnswer
     requires { ⌜ (1 < radix) × (radix ≤ 16) ⌝ }
     ensures { λ r. ⌜ r ≡ numberOf radix sign (unread (now (s .entry)) first) ⌝ }
 {
     let limit = largest_of(sign);
-    let most = limit / radix;
     let mut size: u64 = 0;
     let mut seen = first;
     loop {
@@ -106,7 +117,7 @@ fn number(s: &[u8], first: Next, radix: u64, sign: Sign) -> IntAnswer
         if radix <= digit {
             return IntAnswer::Fault(IntFault::InvalidDigit);
         }
-        if most < size {
+        if !has_room(limit, radix, size) {
             return IntAnswer::Fault(beyond_of(sign));
         }
         size = size * radix + digit;

@@ -1,6 +1,5 @@
 use Prim.Native.Nat.{_-_, _≤_}
 use borrow.Author.Needs.{needs}
-use native.Mathlib.Omega.{arith}
 use lib.ListN.{length}
 use Rattle.int_cases.proofs.run.Statement.{statement}
 use Rattle.int_cases.proofs.run.Tie as tie
