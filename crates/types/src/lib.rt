@@ -1,0 +1,2 @@
+// Literals, names, types, patterns and parameters.
+pub mod lits;
