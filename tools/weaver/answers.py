@@ -6,6 +6,8 @@ from dataclasses import dataclass, field
 from . import WeaveError
 from .places import is_named
 
+SMALL = str.maketrans('0123456789', '₀₁₂₃₄₅₆₇₈₉')
+
 
 @dataclass
 class Answers:
@@ -96,6 +98,24 @@ def needs_at(answers, members, places):
     return found
 
 
+def name_by_thing(here, need):
+    """The need's name as NEED@thing, if there is a thing that tells it from the others of its name; else its name."""
+    name = re.sub(r'-\d+$', '', need)
+    others = [n for n in here.needs if n != need and re.fullmatch(re.escape(name) + r'(-\d+)?', n)]
+    for thing, depth in here.chain(need) if others else []:
+        if is_usual(thing, here):
+            continue
+        if all(dict(here.chain(n)).get(thing, depth + 1) > depth for n in others):
+            return '%s@%s' % (name, thing)
+    return need
+
+
+def is_usual(thing, here):
+    """Whether a thing's name says nothing of the place."""
+    usual = r'(shared-)?slice-known\d*|(known|enum)-told\d*|row-known\d*|match\d*|.*-arg\d*|κs|args|good|fits|pre'
+    return any(is_named(thing, s) for s in here.slices) or re.fullmatch(usual, thing) is not None
+
+
 def need_of(full, members):
     """A need's member and its own name; outside a cycle it has no member."""
     for member in sorted(filter(None, members), key=len, reverse=True):
@@ -104,12 +124,13 @@ def need_of(full, members):
     return None, full
 
 
-def write_out(term, answers, full, need, here):
-    """A term with its macros, %(..) and @things written out, at a need of the places `here`."""
+def write_out(term, answers, full, need, here, kept):
+    """A term with its macros, %(..), @kept(..) and @things written out, at a need of the places `here`."""
     where = '%s: %s' % (answers.file, full)
     term = _macros(term, answers.macros, where)
     chain = here.chain(need) if here else []
     term = re.sub(r'%\(([^()]+)\)', lambda m: _model(m.group(1).split(), chain, here, where), term)
+    term = re.sub(r'@kept\(([\w-]+)\)', lambda m: '(%s)' % (kept(m.group(1)) or _fail('%s: nothing here says that %s keeps its length' % (where, m.group(1)))), term)
     if '@keys' in term:
         if not here.keys(need):
             raise WeaveError('%s stands at no arm of a match, so there is no @keys' % where)
@@ -130,6 +151,10 @@ def _macros(term, macros, where):
         text = re.sub(r'\$(\d+)', lambda d: _nth(handed, int(d.group(1)), m.group(1), where), macros[m.group(1)])
         term = term[:m.start()] + text + term[end:]
     raise WeaveError('%s: its macros go round in a circle' % where)
+
+
+def _fail(message):
+    raise WeaveError(message)
 
 
 def _nth(handed, k, name, where):
@@ -178,11 +203,21 @@ def find_thing(name, before, chain, where):
 
 
 def _lets(pieces, chain, where):
-    """Puts the paths to the things into a term; pieces are text, name, before, text, name, before, .., text."""
-    for k in range(1, len(pieces), 3):
-        thing, depth = find_thing(pieces[k], pieces[k + 1], chain, where)
-        pieces[k], pieces[k + 1] = 'c' + ' .before' * depth + ' .' + thing, ''
-    return ''.join(pieces)
+    """Puts the paths to the things into a term; pieces are text, name, before, text, name, before, .., text.
+
+    Where several places are named, each gets a name by a `let`, from the one before: the paths then add up to the
+    longest alone."""
+    found = [find_thing(pieces[k], pieces[k + 1], chain, where) for k in range(1, len(pieces), 3)]
+    depths = sorted({depth for _, depth in found if depth})
+    if sum(depth for _, depth in found) <= max(depths, default=0) + 3:
+        names, lets = {depth: 'c' + ' .before' * depth for depth in [0] + depths}, []
+    else:
+        names = {depth: 'c' + str(k).translate(SMALL) for k, depth in enumerate(depths, 1)}
+        names[0] = 'c'
+        lets = ['let %s = %s%s in ' % (names[d], names[d0], ' .before' * (d - d0)) for d0, d in zip([0] + depths, depths)]
+    for k, (thing, depth) in zip(range(1, len(pieces), 3), found):
+        pieces[k], pieces[k + 1] = names[depth] + ' .' + thing, ''
+    return ''.join(lets + pieces)
 
 
 def like(name, names):

@@ -36,12 +36,12 @@ class Weaving:
         member, need, here = self.split(asked.name)
         given = self.answers.find(asked.name, self.at)
         term = given if given is not None else self.usual(member, need, here)
-        return write_out(term, self.answers, asked.name, need, here), given is not None
+        return write_out(term, self.answers, asked.name, need, here, lambda name: self.kept(member, need, here, name)), given is not None
 
     def usual(self, member, need, here):
         """What answers a need of this name where nothing is said of it."""
         if here and need in here.whose:
-            return same_length(here, need, lambda loop, name: self.kept(member, loop, name, here)) or 'search needs'
+            return self.kept(member, need, here, here.slice_at(here.whose[need])) or 'search needs'
         if need.startswith('enum-') and here and here.keys(need):
             return '@keys'
         called = re.fullmatch(r'(.+)-requires(-\d+)?', need)
@@ -58,7 +58,12 @@ class Weaving:
         modules = [m for m in self.callees if m.split('.')[-1].replace('_', '-') == callee]
         return bool(modules) and all(asks_nothing(re.match(r'Rattle·(\w+)', m).group(1), m.split('.')[-1]) for m in modules)
 
-    def kept(self, member, loop, name, here):
+    def kept(self, member, need, here, name):
+        """Why a slice has at a need the length that it came with or, after a turn of a loop, had where the loop began."""
+        turn = re.fullmatch(r'(.+)-again(-\d+)?', need)
+        return same_length(here, need, name, lambda loop, name: self.part(member, loop, name, here), turn and turn.group(1))
+
+    def part(self, member, loop, name, here):
         """Which part of a loop's invariant says that a slice keeps its length: as LOOP-kept says, or as its text shows."""
         prefix = member + '-' if member else ''
         said = self.answers.exact.get('%s%s-kept' % (prefix, loop))
@@ -74,27 +79,30 @@ class Weaving:
         return None
 
 
-def same_length(here, need, kept):
-    """Why a lent slice has its length at a return: what each call and each loop on the way says of it, latest first.
+def same_length(here, need, name, kept, stop=None):
+    """Why a lent slice has its length at a need: what each call, loop and store on the way says of it, latest first.
 
-    None where nothing on the way says it. After a call come the slices that it gives back, in its parameters' order."""
-    name = next((n for n, k in here.slices.items() if k == here.whose[need]), None)
-    onward = here.chain(need)[::-1]
-    links = []
+    None where nothing is said of it. With `stop`, as far back as that loop's head."""
+    way, onward = list(here.way(here.needs[need])), here.chain(need)[::-1]
+    store = re.compile(r'slice-(write|set-from|set-of)-%s(-\d+)?' % re.escape(name))
+    said = [(way.index(place), 'simp length-set') for n, place in here.needs.items() if place in way and store.fullmatch(n)]
     for k, (thing, depth) in enumerate(onward):
-        path = '(@%s .%s)'
-        if thing in here.loops and name in here.loops[thing]:
+        if name in here.loops.get(thing, []):
             part = kept(thing, name)
             if part is None:
                 return None
-            links.append(path % (thing, ('inv ' + part).strip()))
-        elif here.calls.get(thing):
-            for slot, back in zip(here.calls[thing], given_back(onward[k + 1:], here.slices)):
-                if back == name:
-                    links.append(path % (thing, 'kept' + ' .1' * slot + ' .0'))
-    if not links:
-        return 'simp length-set' if writes(here, need, name) > 1 else None
-    return ' ∙ '.join(reversed(links))
+            said.append((depth + 0.5, '(@%s .inv%s)' % (thing, ' ' + part if part else '')))
+        for slot, back in zip(here.calls.get(thing, []), given_back(onward[k + 1:], here.slices)):
+            if back == name:
+                said.append((depth + 0.5, '(@%s .kept%s .0)' % (thing, ' .1' * slot)))
+    limit = max([depth + 0.5 for thing, depth in onward if stop in (None, thing)], default=0)
+    term = ''
+    for depth, link in sorted((s for s in said if s[0] <= limit), reverse=True):
+        if link[0] == '(':
+            term = link + (' ∙ ' + term if term else '')
+        elif not term.startswith(link):
+            term = link + (' (%s)' % term if term else '')
+    return term or None
 
 
 def given_back(after, slices):
@@ -105,12 +113,6 @@ def given_back(after, slices):
             yield name
         elif not is_named(thing, 'slice-known'):
             return
-
-
-def writes(here, need, name):
-    """How many stores into a slice lie on the way to a need."""
-    way = set(here.way(here.needs[need]))
-    return sum(1 for n, place in here.needs.items() if place in way and re.fullmatch(r'slice-write-%s(-\d+)?' % re.escape(name), n))
 
 
 def factors(term):

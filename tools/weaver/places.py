@@ -31,6 +31,10 @@ class Places:
                 for depth, place in enumerate(self.way(self.needs.get(need)))
                 for thing in self.things.get(place, [])]
 
+    def slice_at(self, index):
+        """The name of the `&mut` slice parameter at an index."""
+        return next(name for name, k in self.slices.items() if k == index)
+
     def keys(self, need):
         """The fact of the match arm at which a need stands, as a path from `c`; None where it stands at no arm."""
         arm = re.fullmatch(r'At-(match\d*)-(keys\d+)', self.needs.get(need) or '')
