@@ -112,7 +112,7 @@ def name_by_thing(here, need):
 
 def is_usual(thing, here):
     """Whether a thing's name says nothing of the place."""
-    usual = r'(shared-)?slice-known\d*|(known|enum)-told\d*|row-known\d*|match\d*|.*-arg\d*|κs|args|good|fits|pre'
+    usual = r'(shared-)?slice-known\d*|known-told\d*|row-known\d*|match\d*|.*-arg\d*|κs|args|good|fits|pre'
     return any(is_named(thing, s) for s in here.slices) or re.fullmatch(usual, thing) is not None
 
 
