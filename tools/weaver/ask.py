@@ -73,14 +73,16 @@ class Offers:
         """Asks rt for what is not known yet of these functions, and keeps it."""
         said = ''
         if any(n not in self.data['places'] for n in names):
-            said = self._generate(names)
+            self.data['places'], said = self._generate(names)
         for name in names:
             if name not in self.data['places']:
                 raise WeaveError('rt has no %s in %s%s, or nothing is to be woven there. It has: %s%s' % (
                     name, self.crate, like(name, self.data['places']), ' '.join(sorted(self.data['places'])), first_lines(said)))
         while self._missing(names) and self._ask(self._missing(names)):
             pass
-        os.makedirs(ROOM, exist_ok=True)
+        self._keep()
+
+    def _keep(self):
         with open(self.kept, 'w', encoding='utf8') as out:
             json.dump(self.data, out, ensure_ascii=False)
 
@@ -103,24 +105,36 @@ class Offers:
     def _missing(self, names):
         return [n for n in names if n not in self.data['offered'] and not self._is_plain(n)]
 
-    def _generate(self, names):
+    def _generate(self, names, edit=lambda folder: None):
         """Has rt write what it generates, over stubs in the place of all proofs, and reads every Lts of it once."""
         known = [os.path.dirname(f).split('/proofs/')[1] for f in glob.glob('crates/%s/proofs/**/Proof.*' % self.crate, recursive=True)]
         room = self._room(('src', 'specs'))
+        edit('%s/crates/%s/' % (room, self.crate))
         for name in set(known + names):
             os.makedirs('%s/crates/%s/proofs/%s' % (room, self.crate, name))
             open('%s/crates/%s/proofs/%s/Proof.antt' % (room, self.crate, name), 'w').write('-- woven later\n')
         out = os.path.abspath(room + '/generated')
         shutil.rmtree(out, ignore_errors=True)
         said = rt('dev', self.crate, '--generated', out, cwd=room)
-        top = '%s/Rattle.%s.proofs/proofs/' % (out, self.crate)
+        places, top = {}, '%s/Rattle.%s.proofs/proofs/' % (out, self.crate)
         for file in glob.glob(glob.escape(top) + '**/Lts*.antt', recursive=True):
             folder, member = os.path.dirname(file), os.path.basename(file)[:-5].partition('-')[2]
             read = read_places(open(file, encoding='utf8').read())
             read.callees = re.findall(r'^use (Rattle·\S+)\.Symbol\b', open(folder + '/Code.antt', encoding='utf8').read(), re.M)
-            self.data['places'].setdefault(folder[len(top):], {})[member.replace('_', '-')] = asdict(read)
+            places.setdefault(folder[len(top):], {})[member.replace('_', '-')] = asdict(read)
         shutil.rmtree(out, ignore_errors=True)
-        return said
+        return places, said
+
+    def reshaped(self, edit):
+        """The functions of which something else is asked, or at other places, after a must-fail edit."""
+        if not self.data['places']:
+            self.data['places'], _ = self._generate([])
+            self._keep()
+        places, said = self._generate([], lambda folder: apply_edit(edit, folder))
+        if not places:
+            return ['the crate, which does not compile:' + first_lines(said)]
+        names = sorted(set(places) | set(self.data['places']))
+        return [n for n in names if places.get(n) != self.data['places'].get(n)]
 
     def _ask(self, missing):
         """Has rt print the lines for functions with loops or in cycles, the other proofs in place. Whether it printed some."""
@@ -157,6 +171,21 @@ def first_lines(said):
     """What rt says is wrong, in short."""
     lines = [line[:300] for line in said.split('\n') if re.search(r'error|FAILED|NOT PROVED', line)]
     return ''.join('\n  ' + line for line in lines[:8])
+
+
+def apply_edit(file, folder):
+    """Replaces in a crate's folder what a must-fail edit's lines `file:`, `old:` and `new:` say."""
+    name = old = None
+    for line in open(file, encoding='utf8').read().split('\n'):
+        if line.startswith('file: '):
+            name = folder + line[6:]
+        elif line.startswith('old: '):
+            old = line[5:]
+        elif line.startswith('new:') and name and old:
+            text = open(name, encoding='utf8').read() if os.path.exists(name) else ''
+            if text.count(old) != 1:
+                raise WeaveError('%s: its old text is %d times in %s' % (file, text.count(old), name[len(folder):]))
+            open(name, 'w', encoding='utf8').write(text.replace(old, re.sub('^new: ?', '', line)))
 
 
 def formatted(texts):
