@@ -206,10 +206,12 @@ def _lets(pieces, chain, where):
     """Puts the paths to the things into a term; pieces are text, name, before, text, name, before, .., text.
 
     Where several places are named, each gets a name by a `let`, from the one before: the paths then add up to the
-    longest alone."""
+    longest alone. Not where a tactic looks through all that is in scope: it would go through those places once more, and
+    `omega` stops after some 128 records."""
     found = [find_thing(pieces[k], pieces[k + 1], chain, where) for k in range(1, len(pieces), 3)]
     depths = sorted({depth for _, depth in found if depth})
-    if sum(depth for _, depth in found) <= max(depths, default=0) + 3:
+    searches = re.search(r'\b(omega|search|cc)\b', ''.join(pieces[::3]))
+    if searches or sum(depth for _, depth in found) <= max(depths, default=0) + 3:
         names, lets = {depth: 'c' + ' .before' * depth for depth in [0] + depths}, []
     else:
         names = {depth: 'c' + str(k).translate(SMALL) for k, depth in enumerate(depths, 1)}
