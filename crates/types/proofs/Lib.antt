@@ -1,1 +1,2 @@
+pub mod ItemPaths
 pub mod LitPaths

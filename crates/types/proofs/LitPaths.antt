@@ -30,7 +30,7 @@ use Rattle.types.specs.declared.lits.Literal.the-variants as literals
 use Rattle.types.specs.Lits.{bitsOf, leafLabel, leaf, intBy, intLiteral, when, literal, litFrom, litAt, lit, identAt, ident}
 
 -- the one or the other, by a test of a kind
-module _ {k m : ℕ} {l n : Literal} where
+module _ (k m : ℕ) (l n : Literal) where
   pub on : k ≡ m → when (eqb k m) l n ≡ l
   on p = rw (eq-eqb _ _ p)
 

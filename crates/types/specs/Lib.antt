@@ -1,1 +1,3 @@
 pub mod Lits
+pub mod Items
+pub mod Types

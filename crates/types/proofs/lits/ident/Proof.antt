@@ -12,8 +12,6 @@ use Rattle.cursor.proofs.checks.unexpected.Reads as unexpected-reads
 use Rattle.cursor.proofs.records.append.Reads as append-reads
 use Rattle.cursor.proofs.tokens.current_range.Reads as current-range-reads
 
-
-
 -- src/lits.rt:160:9
 current-range-requires : tie.Need-current-range-requires
 current-range-requires c κs = tt
