@@ -43,26 +43,34 @@ isEnded ranged.Nowhere = false
 abbrev pub so : Kids → Items
 so kids = record { kids = kids; ended = ranged.Nowhere }
 
--- one item, the Eols after it, and the end or a comma
-unfoldable pub oneItem : Sheet → Rule ℕ → ℕ → Items → Rule (Next Items)
-oneItem e item end i = do
-  r ← item
-  kids ← add (i .kids) r
+-- after an item: it joins the row; then Eols, and the end or a comma and Eols
+unfoldable pub afterItem : Sheet → ℕ → Kids → ℕ → Rule (Next Items)
+afterItem e end kids r = do
+  longer ← add kids r
   eatEol e
   ended ← eat e end
-  ifSo (give (stop (so kids)))
+  ifSo (give (stop (so longer)))
       (do
         expect e kind.Comma
         eatEol e
-        give (more (so kids))) ended
+        give (more (so longer))) ended
 
--- the last item, the Eols after it, and the end
-unfoldable pub lastItem : Sheet → (Items → Rule Items) → ℕ → Items → Rule (Next Items)
-lastItem e last end i = do
-  j ← last i
+unfoldable pub oneItem : Sheet → Rule ℕ → ℕ → Items → Rule (Next Items)
+oneItem e item end i = do
+  r ← item
+  afterItem e end (i .kids) r
+
+-- after the last item only Eols and the end
+unfoldable pub afterLast : Sheet → ℕ → Items → Rule Items
+afterLast e end i = do
   eatEol e
   expect e end
-  give (stop j)
+  give i
+
+unfoldable pub lastItem : Sheet → (Items → Rule Items) → ℕ → Items → Rule Items
+lastItem e last end i = do
+  j ← last i
+  afterLast e end j
 
 unfoldable pub itemTurn : Sheet → Rule ℕ → ℕ → (Items → Rule Items) → ℕ → Turn Items
 itemTurn e item lastKind last end i = do
@@ -70,7 +78,10 @@ itemTurn e item lastKind last end i = do
   ifSo (give (stop i))
       (do
         lastly ← check e lastKind
-        ifSo (lastItem e last end i) (oneItem e item end i) lastly) ended
+        ifSo (do
+          j ← lastItem e last end i
+          give (stop j))
+            (oneItem e item end i) lastly) ended
 
 unfoldable pub itemsUntilWithLast : Sheet → Rule ℕ → ℕ → (Items → Rule Items) → ℕ → Kids → Rule Items
 itemsUntilWithLast e item lastKind last end kids = do

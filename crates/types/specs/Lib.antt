@@ -1,3 +1,4 @@
 pub mod Lits
 pub mod Items
+pub mod Answers
 pub mod Types

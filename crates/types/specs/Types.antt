@@ -17,7 +17,7 @@ use Rattle.cursor.specs.Tokens.{bump}
 use Rattle.cursor.specs.Records.{add, noKids, flagged}
 use Rattle.types.specs.declared.items.Items.{Items}
 use Rattle.types.specs.Lits.{lit, ident}
-use Rattle.types.specs.Items.{start, close, pair, addSome, isEnded, itemsUntilWithLast}
+use Rattle.types.specs.Items.{start, close, pair, addSome, isEnded, so, lastItem, itemsUntilWithLast}
 
 -- a last item that is one more child: it is not counted
 abbrev pub ended : Kids → Kids → Items
@@ -69,6 +69,10 @@ module _ (e : Sheet) where
     arrow ← eat e kind.Arrow
     ifSo (type atom) (give 0) arrow
 
+  -- the type of a name: in a closure's parameters an atom
+  unfoldable pub named : Rule ℕ → Bool → Rule ℕ
+  named atom = ifSo atom (type atom)
+
   -- parse_typed_ident: without a type it is its name
   unfoldable pub typedIdent : Rule ℕ → Rule ℕ
   typedIdent ty = do
@@ -102,7 +106,7 @@ module _ (e : Sheet) where
 
   -- the item rules by number: 0 a typed name, 1 one whose type is an atom, 2 a pair of a table type, 3 a type
   unfoldable pub typeItem : Rule ℕ → ℕ → Rule ℕ
-  typeItem atom k s w = pickOne k (typedIdent (type atom) s w) (typedIdent atom s w) (tableTyPair atom s w) (type atom s w)
+  typeItem atom k s w = pickOne k (typedIdent (named atom false) s w) (typedIdent (named atom true) s w) (tableTyPair atom s w) (type atom s w)
 
   -- the last item of each: `...` and one more item; of a table type the other pairs
   unfoldable pub typeLastItem : Rule ℕ → ℕ → Rule ℕ
@@ -118,6 +122,10 @@ module _ (e : Sheet) where
     r ← typeLastItem atom k
     after ← add (i .kids) r
     give (ended (i .kids) after)
+
+  -- the last item, and the end of the list
+  unfoldable pub lastOf : Rule ℕ → ℕ → Kids → Rule Items
+  lastOf atom k kids = lastItem e (typeLast atom k) (typeEnd k) (so kids)
 
   unfoldable pub typeItems : Rule ℕ → ℕ → Kids → Rule Items
   typeItems atom k kids = itemsUntilWithLast e (typeItem atom k) (typeLastKind k) (typeLast atom k) (typeEnd k) kids

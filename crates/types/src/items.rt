@@ -5,15 +5,23 @@ ghost use Prim.Native.Nat.{ℕ};
 ghost use Rattle.cursor.specs.declared.State.{State};
 ghost use Rattle.cursor.specs.Rule.{world, done};
 ghost use Rattle.cursor.specs.Answers.{asBuilt};
-ghost use Rattle.types.specs.Items.{close, pair, addSome, isEnded};
+ghost use Rattle.types.specs.Items.{close, pair, addSome, isEnded, afterItem, afterLast};
+ghost use Rattle.types.specs.Answers.{asListed, asTurned};
+ghost use Rattle.cursor.specs.Sheet.{sheet};
 use cursor::Built;
 use cursor::Failure;
 use cursor::Kids;
 use cursor::Label;
+use cursor::Limits;
+use cursor::Moved;
 use cursor::Ranged;
 use cursor::State;
+use cursor::Test;
+use cursor::checks::eat;
+use cursor::checks::expect;
 use cursor::records::add;
 use cursor::records::append;
+use cursor::tokens::eat_eol;
 
 // The row of the items, which are counted, with a last item as one more child that is not counted, or as a bare range.
 pub struct Items {
@@ -23,6 +31,13 @@ pub struct Items {
 
 pub enum Listed {
     Row(State, Items),
+    Failed(Failure),
+}
+
+// The answer of a turn: go on with the row, or stop with it.
+pub enum Turned {
+    More(State, Kids),
+    Stop(State, Kids),
     Failed(Failure),
 }
 
@@ -83,5 +98,65 @@ pub fn is_ended(ended: Ranged) -> bool
     match ended {
         Ranged::At(_) => true,
         Ranged::Nowhere => false,
+    }
+}
+
+// After an item: it joins the row; then Eols, and the end or a comma and Eols.
+pub fn after_item(
+    tokens: &[u32],
+    nodes: &mut [u32],
+    live: &mut [u8; 1024],
+    limits: Limits,
+    s: State,
+    end: u8,
+    kids: Kids,
+    link: u32,
+) -> Turned
+    ensures { λ r. ⌜ ((y e x : List ℕ) → asTurned r (world (now (nodes .exit)) e x (now (live .exit))) ≡ afterItem (sheet y (now (tokens .entry)) limits) end kids link s (world (now (nodes .entry)) e x (now (live .entry)))) ⌝ }
+{
+    let longer = add(nodes, kids, link);
+    let lines = eat_eol(tokens, limits, s);
+    let s1 = match lines {
+        Moved::On(t) => t,
+        Moved::Failed(f) => return Turned::Failed(f),
+    };
+    let ended = eat(tokens, live, limits, s1, end);
+    let s2 = match ended {
+        Test::Yes(t) => return Turned::Stop(t, longer),
+        Test::No(t) => t,
+        Test::Failed(f) => return Turned::Failed(f),
+    };
+    let comma = expect(tokens, live, limits, s2, kinds::COMMA);
+    let s3 = match comma {
+        Moved::On(t) => t,
+        Moved::Failed(f) => return Turned::Failed(f),
+    };
+    let behind = eat_eol(tokens, limits, s3);
+    match behind {
+        Moved::On(t) => Turned::More(t, longer),
+        Moved::Failed(f) => Turned::Failed(f),
+    }
+}
+
+// After the last item: Eols and the end.
+pub fn after_last(
+    tokens: &[u32],
+    live: &mut [u8; 1024],
+    limits: Limits,
+    s: State,
+    end: u8,
+    items: Items,
+) -> Listed
+    ensures { λ r. ⌜ ((y n e x : List ℕ) → asListed r (world n e x (now (live .exit))) ≡ afterLast (sheet y (now (tokens .entry)) limits) end items s (world n e x (now (live .entry)))) ⌝ }
+{
+    let lines = eat_eol(tokens, limits, s);
+    let s1 = match lines {
+        Moved::On(t) => t,
+        Moved::Failed(f) => return Listed::Failed(f),
+    };
+    let ended = expect(tokens, live, limits, s1, end);
+    match ended {
+        Moved::On(t) => Listed::Row(t, items),
+        Moved::Failed(f) => Listed::Failed(f),
     }
 }
