@@ -130,7 +130,7 @@ def write_out(term, answers, full, need, here, kept):
     term = _macros(term, answers.macros, where)
     chain = here.chain(need) if here else []
     term = re.sub(r'%\(([^()]+)\)', lambda m: _model(m.group(1).split(), chain, here, where), term)
-    term = re.sub(r'@kept\(([\w-]+)\)', lambda m: '(%s)' % (kept(m.group(1)) or _fail('%s: nothing here says that %s keeps its length' % (where, m.group(1)))), term)
+    term = re.sub(r'@kept\(([\w-]+)\)', lambda m: _kept(m.group(1), kept, where), term)
     if '@keys' in term:
         if not here.keys(need):
             raise WeaveError('%s stands at no arm of a match, so there is no @keys' % where)
@@ -153,8 +153,11 @@ def _macros(term, macros, where):
     raise WeaveError('%s: its macros go round in a circle' % where)
 
 
-def _fail(message):
-    raise WeaveError(message)
+def _kept(name, kept, where):
+    term = kept(name)
+    if not term:
+        raise WeaveError('%s: nothing here says that %s keeps its length' % (where, name))
+    return '(%s)' % term
 
 
 def _nth(handed, k, name, where):
@@ -172,7 +175,7 @@ def _handed(term, at):
             parts.append(term[start:k].strip())
             start = k + 1
             if depth == 0:
-                return k + 1, [p for p in parts if p]
+                return k + 1, parts
     raise WeaveError('a macro is handed something that does not end: %s' % term[at:at + 60])
 
 
