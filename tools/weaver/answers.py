@@ -87,7 +87,9 @@ def needs_at(answers, members, places):
         if not at:
             continue
         member, need = need_of(name, members)
-        here = places[member]
+        here = places.get(member)
+        if not here:
+            continue
         near = [(depth, n) for n in here.needs if re.fullmatch(re.escape(need) + r'(-\d+)?', n)
                 for t, depth in here.chain(n) if t == thing]
         best = [n for depth, n in near if depth == min(near)[0]]
@@ -132,7 +134,7 @@ def write_out(term, answers, full, need, here, kept):
     term = re.sub(r'%\(([^()]+)\)', lambda m: _model(m.group(1).split(), chain, here, where), term)
     term = re.sub(r'@kept\(([\w-]+)\)', lambda m: _kept(m.group(1), kept, where), term)
     if '@keys' in term:
-        if not here.keys(need):
+        if not here or not here.keys(need):
             raise WeaveError('%s stands at no arm of a match, so there is no @keys' % where)
         term = term.replace('@keys', here.keys(need))
     return _lets(re.split(r'@([\w·-]+)((?:<[\w·-]*)?)', term), chain, where)
