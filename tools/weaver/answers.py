@@ -87,7 +87,9 @@ def needs_at(answers, members, places):
         if not at:
             continue
         member, need = need_of(name, members)
-        here = places[member]
+        here = places.get(member)
+        if not here:
+            continue
         near = [(depth, n) for n in here.needs if re.fullmatch(re.escape(need) + r'(-\d+)?', n)
                 for t, depth in here.chain(n) if t == thing]
         best = [n for depth, n in near if depth == min(near)[0]]
@@ -130,9 +132,9 @@ def write_out(term, answers, full, need, here, kept):
     term = _macros(term, answers.macros, where)
     chain = here.chain(need) if here else []
     term = re.sub(r'%\(([^()]+)\)', lambda m: _model(m.group(1).split(), chain, here, where), term)
-    term = re.sub(r'@kept\(([\w-]+)\)', lambda m: '(%s)' % (kept(m.group(1)) or _fail('%s: nothing here says that %s keeps its length' % (where, m.group(1)))), term)
+    term = re.sub(r'@kept\(([\w-]+)\)', lambda m: _kept(m.group(1), kept, where), term)
     if '@keys' in term:
-        if not here.keys(need):
+        if not here or not here.keys(need):
             raise WeaveError('%s stands at no arm of a match, so there is no @keys' % where)
         term = term.replace('@keys', here.keys(need))
     return _lets(re.split(r'@([\w·-]+)((?:<[\w·-]*)?)', term), chain, where)
@@ -153,8 +155,11 @@ def _macros(term, macros, where):
     raise WeaveError('%s: its macros go round in a circle' % where)
 
 
-def _fail(message):
-    raise WeaveError(message)
+def _kept(name, kept, where):
+    term = kept(name)
+    if not term:
+        raise WeaveError('%s: nothing here says that %s keeps its length' % (where, name))
+    return '(%s)' % term
 
 
 def _nth(handed, k, name, where):
@@ -172,7 +177,7 @@ def _handed(term, at):
             parts.append(term[start:k].strip())
             start = k + 1
             if depth == 0:
-                return k + 1, [p for p in parts if p]
+                return k + 1, parts
     raise WeaveError('a macro is handed something that does not end: %s' % term[at:at + 60])
 
 

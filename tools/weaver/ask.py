@@ -83,6 +83,7 @@ class Offers:
         self._keep()
 
     def _keep(self):
+        os.makedirs(ROOM, exist_ok=True)
         with open(self.kept, 'w', encoding='utf8') as out:
             json.dump(self.data, out, ensure_ascii=False)
 
@@ -95,7 +96,7 @@ class Offers:
             here = self.places(name)[None]
             return plain_skeleton(self.crate, name, here.order, here.callees)
         if name not in self.data['offered']:
-            raise WeaveError('rt offers no lines for %s of %s: is each function that it calls proved? rt dev %s says' % (name, self.crate, self.crate))
+            raise WeaveError('rt offers no lines for %s: `rt dev %s` says which function that it calls is not proved' % (name, self.crate))
         return read_skeleton(self.data['offered'][name])
 
     def _is_plain(self, name):
@@ -190,6 +191,8 @@ def apply_edit(file, folder):
 
 def formatted(texts):
     """The same files in the layout of `rt fmt`, which formats a repository: here one of these files alone."""
+    if not texts:
+        return []
     room = ROOM + '/layout'
     shutil.rmtree(room, ignore_errors=True)
     os.makedirs(room + '/crates/x')

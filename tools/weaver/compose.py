@@ -40,8 +40,9 @@ class Weaving:
 
     def usual(self, member, need, here):
         """What answers a need of this name where nothing is said of it."""
-        if here and need in here.whose:
-            return self.kept(member, need, here, here.slice_at(here.whose[need])) or 'search needs'
+        lent = here and here.slice_at(here.whose.get(need))
+        if lent:
+            return self.kept(member, need, here, lent) or 'search needs'
         if need.startswith('enum-') and here and here.keys(need):
             return '@keys'
         called = re.fullmatch(r'(.+)-requires(-\d+)?', need)
@@ -127,25 +128,26 @@ def factors(term):
     return parts
 
 
-def compose(crate, skeleton, places, answers, named=False):
-    """The text of Proof.antt, before `rt fmt`."""
+def compose(crate, skeleton, places, answers, form=''):
+    """The text of Proof.antt, before `rt fmt`.
+
+    What was answered by hand is a declaration with the need's name, so that an error names it; the rest stands in the last
+    declaration. In a cycle, where each need's type takes ten lines, all does. The forms 'named' and 'inline' are uniform."""
     weaving, blocks, inline = Weaving(crate, skeleton, places, answers), [], {}
     for part in skeleton.parts:
         if isinstance(part, str):
             blocks.append(part)
             continue
         term, by_hand = weaving.term(part)
-        if part.is_part or named:
+        if part.is_part or form == 'named' or by_hand and not form and not weaving.members:
             opened = answers.unfolding + '\n' if by_hand and answers.unfolding and not part.is_part else ''
             blocks.append('%s%s%s%s = %s' % (part.head, opened, part.name, part.binders, term))
         else:
-            binders = part.binders[2:] if part.binders.startswith(' t ') else part.binders
-            inline[part.name] = ('\n    -- %s\n    ' % part.name if by_hand else '') + '(λ%s. %s)' % (' ' + binders.strip(), term)
-    spec = skeleton.spec
-    if not named:
-        spec = re.sub(r'\((\S+) t\)|[^\s()]+', lambda m: inline.get(m.group(1) or m.group(), m.group()), spec)
-        if answers.unfolding:
-            spec = spec.replace('\n', '\n%s\n' % answers.unfolding, 1)
+            binders = re.sub(r'^ t ', ' ', part.binders)
+            inline[part.name] = ('\n    -- %s\n    ' % part.name if by_hand else '') + '(λ%s. %s)' % (binders, term)
+    spec = re.sub(r'\((\S+) t\)|[^\s()]+', lambda m: inline.get(m.group(1) or m.group(), m.group()), skeleton.spec)
+    if answers.unfolding and inline:
+        spec = spec.replace('\n', '\n%s\n' % answers.unfolding, 1)
     return assemble(skeleton.uses, answers.above, blocks + [spec])
 
 

@@ -33,7 +33,7 @@ class Places:
 
     def slice_at(self, index):
         """The name of the `&mut` slice parameter at an index."""
-        return next(name for name, k in self.slices.items() if k == index)
+        return next((name for name, k in self.slices.items() if k == index), None)
 
     def keys(self, need):
         """The fact of the match arm at which a need stands, as a path from `c`; None where it stands at no arm."""

@@ -63,7 +63,7 @@ def plain_skeleton(crate, name, order, callees):
     """The same file for a function with neither a loop nor a cycle, made from its Lts: rt would try a search at each
     need before it prints it, which takes as long as all the rest."""
     module, own = 'Rattle.%s.proofs.%s' % (crate, name.replace('/', '.')), name.split('/')[-1].replace('_', '-')
-    uses = ['use %s.Statement.{statement}' % module, 'use %s.Tie as tie' % module, 'use %s.Reads as reads' % module, 'use %s.Lts as lts' % module]
+    uses = ['use %s.%s' % (module, part) for part in ('Statement.{statement}', 'Tie as tie', 'Reads as reads', 'Lts as lts')]
     uses += ['use %s.Reads as %s-reads' % (c, '-'.join(c.split('.')[2:]).replace('_', '-')) for c in callees]
     asked = [Asked(n, ' c κs' if re.search(r'-requires(-\d+)?$', n) else ' c', '?', '', '%s : tie.Need-%s\n' % (n, n)) for n in order]
     spec = 'tie.close (tie.spec%s)' % ''.join('\n    ' + n for n in order) if order else 'tie.close tie.spec'
