@@ -11,7 +11,8 @@ use Rattle.cursor.specs.Tokens.{eatEol}
 use Rattle.cursor.specs.Checks.{check, eat, expect}
 use Rattle.cursor.specs.Records.{append, add, noKids}
 use Rattle.types.specs.declared.items.Items.{Items}
-use Rattle.types.specs.Items.{close, pair, addSome, so, oneItem, lastItem, itemTurn, itemsUntilWithLast}
+use Rattle.types.specs.Items.{close, pair, addSome, so, afterItem, oneItem, afterLast, lastItem, itemTurn, itemsUntilWithLast}
+use Rattle.cursor.proofs.Loops.{loop-stop, loop-failed}
 
 pub close-is : (k from one two flags first : ℕ) (s : State) (w : World) → close k from one two flags first s w ≡ append (record { kind = k; start = from; end = s .prev; one = one; two = two; flags = flags }) first s w
 unfolding close
@@ -30,6 +31,49 @@ pub some-on : (kids : Kids) (link : ℕ) (s : State) (w : World) → (link ≡ 0
 unfolding addSome
 some-on kids zero s w p = absurd (p refl)
 some-on kids (suc i) s w p = refl
+
+module _ (e : Sheet) (end : ℕ) where
+  module _ (kids : Kids) (r : ℕ) (s : State) (w : World) {longer : Kids} {w2 : World} (q : done s w2 longer ≡ add kids r s w) where
+    pub after-spent : {x : Stop} → eatEol e s w2 ≡ failed x → afterItem e end kids r s w ≡ failed x
+    unfolding afterItem
+    after-spent a = rw (← q) (rw a)
+
+    module _ {s3 : State} {w3 : World} (a : eatEol e s w2 ≡ done s3 w3 tt) where
+      pub after-full : {x : Stop} → eat e end s3 w3 ≡ failed x → afterItem e end kids r s w ≡ failed x
+      unfolding afterItem
+      after-full b = rw (← q) (rw a (rw b))
+
+      pub after-ended : {s4 : State} {w4 : World} → eat e end s3 w3 ≡ done s4 w4 true → afterItem e end kids r s w ≡ done s4 w4 (stop (so longer))
+      unfolding afterItem
+      after-ended b = rw (← q) (rw a (rw b))
+
+      module _ {s4 : State} {w4 : World} (b : eat e end s3 w3 ≡ done s4 w4 false) where
+        pub after-open : {x : Stop} → expect e kind.Comma s4 w4 ≡ failed x → afterItem e end kids r s w ≡ failed x
+        unfolding afterItem
+        after-open c = rw (← q) (rw a (rw b (rw c)))
+
+        module _ {s5 : State} {w5 : World} (c : expect e kind.Comma s4 w4 ≡ done s5 w5 tt) where
+          pub after-lost : {x : Stop} → eatEol e s5 w5 ≡ failed x → afterItem e end kids r s w ≡ failed x
+          unfolding afterItem
+          after-lost d = rw (← q) (rw a (rw b (rw c (rw d))))
+
+          pub after-more : {s6 : State} {w6 : World} → eatEol e s5 w5 ≡ done s6 w6 tt → afterItem e end kids r s w ≡ done s6 w6 (more (so longer))
+          unfolding afterItem
+          after-more d = rw (← q) (rw a (rw b (rw c (rw d))))
+
+  module _ (i : Items) (s : State) (w : World) where
+    pub last-spent : {x : Stop} → eatEol e s w ≡ failed x → afterLast e end i s w ≡ failed x
+    unfolding afterLast
+    last-spent p = rw p
+
+    module _ {s1 : State} {w1 : World} (p : eatEol e s w ≡ done s1 w1 tt) where
+      pub last-open : {x : Stop} → expect e end s1 w1 ≡ failed x → afterLast e end i s w ≡ failed x
+      unfolding afterLast
+      last-open q = rw p (rw q)
+
+      pub last-on : {s2 : State} {w2 : World} → expect e end s1 w1 ≡ done s2 w2 tt → afterLast e end i s w ≡ done s2 w2 i
+      unfolding afterLast
+      last-on q = rw p (rw q)
 
 module _ (e : Sheet) (item : Rule ℕ) (lastKind : ℕ) (last : Items → Rule Items) (end : ℕ) where
   module _ (kids : Kids) (s : State) (w : World) where
@@ -55,60 +99,25 @@ module _ (e : Sheet) (item : Rule ℕ) (lastKind : ℕ) (last : Items → Rule I
       unfolding itemTurn
       turn-full q = rw p (rw q)
 
-      pub turn-last : {s2 : State} {w2 : World} → check e lastKind s1 w1 ≡ done s2 w2 true → itemTurn e item lastKind last end i s w ≡ lastItem e last end i s2 w2
-      unfolding itemTurn
-      turn-last q = rw p (rw q)
+      module _ {s2 : State} {w2 : World} (q : check e lastKind s1 w1 ≡ done s2 w2 true) where
+        pub turn-last-failed : {x : Stop} → lastItem e last end i s2 w2 ≡ failed x → itemTurn e item lastKind last end i s w ≡ failed x
+        unfolding itemTurn
+        turn-last-failed r = rw p (rw q (rw r))
 
-      pub turn-item : {s2 : State} {w2 : World} → check e lastKind s1 w1 ≡ done s2 w2 false → itemTurn e item lastKind last end i s w ≡ oneItem e item end i s2 w2
-      unfolding itemTurn
-      turn-item q = rw p (rw q)
+        pub turn-last : {j : Items} {s3 : State} {w3 : World} → lastItem e last end i s2 w2 ≡ done s3 w3 j → itemTurn e item lastKind last end i s w ≡ done s3 w3 (stop j)
+        unfolding itemTurn
+        turn-last r = rw p (rw q (rw r))
 
-    pub last-failed : {x : Stop} → last i s w ≡ failed x → lastItem e last end i s w ≡ failed x
-    unfolding lastItem
-    last-failed p = rw p
+      module _ {s2 : State} {w2 : World} (q : check e lastKind s1 w1 ≡ done s2 w2 false) where
+        pub turn-item-failed : {x : Stop} → item s2 w2 ≡ failed x → itemTurn e item lastKind last end i s w ≡ failed x
+        unfolding itemTurn oneItem
+        turn-item-failed r = rw p (rw q (rw r))
 
-    module _ {j : Items} {s1 : State} {w1 : World} (p : last i s w ≡ done s1 w1 j) where
-      pub last-spent : {x : Stop} → eatEol e s1 w1 ≡ failed x → lastItem e last end i s w ≡ failed x
-      unfolding lastItem
-      last-spent q = rw p (rw q)
+        pub turn-item : {r : ℕ} {s3 : State} {w3 : World} → item s2 w2 ≡ done s3 w3 r → itemTurn e item lastKind last end i s w ≡ afterItem e end (i .kids) r s3 w3
+        unfolding itemTurn oneItem
+        turn-item r = rw p (rw q (rw r))
 
-      module _ {s2 : State} {w2 : World} (q : eatEol e s1 w1 ≡ done s2 w2 tt) where
-        pub last-open : {x : Stop} → expect e end s2 w2 ≡ failed x → lastItem e last end i s w ≡ failed x
-        unfolding lastItem
-        last-open r = rw p (rw q (rw r))
-
-        pub last-on : {s3 : State} {w3 : World} → expect e end s2 w2 ≡ done s3 w3 tt → lastItem e last end i s w ≡ done s3 w3 (stop j)
-        unfolding lastItem
-        last-on r = rw p (rw q (rw r))
-
-    pub one-failed : {x : Stop} → item s w ≡ failed x → oneItem e item end i s w ≡ failed x
-    unfolding oneItem
-    one-failed p = rw p
-
-    module _ {r : ℕ} {kids : Kids} {s1 : State} {w1 w2 : World} (p : item s w ≡ done s1 w1 r) (q : done s1 w2 kids ≡ add (i .kids) r s1 w1) where
-      pub one-spent : {x : Stop} → eatEol e s1 w2 ≡ failed x → oneItem e item end i s w ≡ failed x
-      unfolding oneItem
-      one-spent a = rw p (rw (← q) (rw a))
-
-      module _ {s3 : State} {w3 : World} (a : eatEol e s1 w2 ≡ done s3 w3 tt) where
-        pub one-full : {x : Stop} → eat e end s3 w3 ≡ failed x → oneItem e item end i s w ≡ failed x
-        unfolding oneItem
-        one-full b = rw p (rw (← q) (rw a (rw b)))
-
-        pub one-ended : {s4 : State} {w4 : World} → eat e end s3 w3 ≡ done s4 w4 true → oneItem e item end i s w ≡ done s4 w4 (stop (so kids))
-        unfolding oneItem
-        one-ended b = rw p (rw (← q) (rw a (rw b)))
-
-        module _ {s4 : State} {w4 : World} (b : eat e end s3 w3 ≡ done s4 w4 false) where
-          pub one-open : {x : Stop} → expect e kind.Comma s4 w4 ≡ failed x → oneItem e item end i s w ≡ failed x
-          unfolding oneItem
-          one-open c = rw p (rw (← q) (rw a (rw b (rw c))))
-
-          module _ {s5 : State} {w5 : World} (c : expect e kind.Comma s4 w4 ≡ done s5 w5 tt) where
-            pub one-lost : {x : Stop} → eatEol e s5 w5 ≡ failed x → oneItem e item end i s w ≡ failed x
-            unfolding oneItem
-            one-lost d = rw p (rw (← q) (rw a (rw b (rw c (rw d)))))
-
-            pub one-more : {s6 : State} {w6 : World} → eatEol e s5 w5 ≡ done s6 w6 tt → oneItem e item end i s w ≡ done s6 w6 (more (so kids))
-            unfolding oneItem
-            one-more d = rw p (rw (← q) (rw a (rw b (rw c (rw d)))))
+  -- a list whose last item is read is what the last item's rule and the end give
+  pub turned-last : (o : Out Items) (i : Items) (s : State) (w : World) {s1 s2 : State} {w1 w2 : World} → eat e end s w ≡ done s1 w1 false → check e lastKind s1 w1 ≡ done s2 w2 true → o ≡ lastItem e last end i s2 w2 → iterate e (itemTurn e item lastKind last end) i s w ≡ o
+  turned-last (done s3 w3 j) i s w p q r = loop-stop e _ (turn-last i _ _ p q (sym r))
+  turned-last (failed x) i s w p q r = loop-failed e _ (turn-last-failed i _ _ p q (sym r))

@@ -1,2 +1,3 @@
 pub mod ItemPaths
 pub mod LitPaths
+pub mod TypePaths
