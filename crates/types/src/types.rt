@@ -521,7 +521,8 @@ fn type_table(
     match listed {
         Listed::Row(t, items) => {
             let kids = items.kids;
-            let flags = flagged(kids.count, 0, is_ended(items.ended), false);
+            let last = items.ended;
+            let flags = flagged(kids.count, 0, is_ended(last), false);
             close(nodes, t, nodes::TY_TABLE, from, 0, 0, flags, kids.first)
         }
         Listed::Failed(f) => Built::Failed(f),
@@ -561,7 +562,8 @@ fn type_function(
         Built::Node(t, link) => {
             let row = items.kids;
             let kids = add_some(nodes, row, link);
-            let flags = flagged(row.count, 0, is_ended(items.ended), 0 < link);
+            let last = items.ended;
+            let flags = flagged(row.count, 0, is_ended(last), 0 < link);
             close(nodes, t, nodes::TY_FUNCTION, from, 0, 0, flags, kids.first)
         }
         Built::Failed(f) => Built::Failed(f),
