@@ -13,3 +13,5 @@ pub mod Grows
 pub mod Stacked
 pub mod Building
 pub mod Example
+pub mod Keeps
+pub mod Kept
