@@ -66,6 +66,15 @@ pub record Stands (m : Mark) (s : State) : Type 0 where
   pub errors : m .errors ≤ s .errors
   pub wanted : m .wanted ≤ s .wanted
 
+pub mark-stands : (s : State) → Stands (mark s) s
+mark-stands s = record { nodes = le-refl _; errors = le-refl _; wanted = le-refl _ }
+
+pub behind-stands : (s : State) (link : ℕ) → Stands (markBehind s link) s
+behind-stands s link = record { nodes = le-refl _; errors = le-refl _; wanted = le-refl _ }
+
+pub ground-stands : (s : State) → Stands ground s
+ground-stands s = record { nodes = omega arith; errors = omega arith; wanted = omega arith }
+
 pub stands-later : {m : Mark} {s s1 : State} → Stands m s → Later s s1 → Stands m s1
 stands-later h l = record { nodes = le-trans (h .nodes) (l .nodes); errors = le-trans (h .errors) (l .errors); wanted = le-trans (h .wanted) (l .wanted) }
 
@@ -142,6 +151,10 @@ module _ {A : Type 0} {m : Mark} {G : A → Type 0} where
   -- less may be said of the answer
   pub eases : {H : A → Type 0} {r : Rule A} → Keeps m G r → ((a : A) → G a → H a) → Keeps m H r
   eases x f = record { ends = λ s w h. weaken (x .ends s w h) (λ s1 w1 a p. (p .0, f a (p .1))) (λ s1 w1 f p. p) }
+
+-- nothing is said of the answer any more
+pub plain : {A : Type 0} {m : Mark} {G : A → Type 0} {r : Rule A} → Keeps m G r → Keeps m Plain r
+plain x = eases x (λ _ _. tt)
 
 module _ {A : Type 0} {m : Mark} {G : A → Type 0} where
   -- what began at a later state began at the earlier one

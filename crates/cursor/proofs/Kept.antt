@@ -25,7 +25,7 @@ use Rattle.cursor.proofs.TokenPaths.{past-ge}
 use Rattle.cursor.proofs.Finished.{Agree}
 use Rattle.cursor.proofs.Writes.{put-length, put-below, put-agree, write-agree, write-length}
 use Rattle.cursor.proofs.Stacked.{linked, added, add-is, roomFor}
-use Rattle.cursor.proofs.Keeps.{Later, later, later-refl, Mark, Stands, stands-later, Same, same-refl, same-trans, Kept, kept-refl, kept-nodes, Went, went-refl, earlier, Keeps, Plain, gives, ifs, binds, thens, Nexts, loops}
+use Rattle.cursor.proofs.Keeps.{Later, later, later-refl, Mark, markBehind, ground, Stands, stands-later, Same, same-refl, same-trans, Kept, kept-refl, kept-nodes, Went, went-refl, earlier, Keeps, Plain, gives, ifs, binds, thens, Nexts, loops}
 
 module _ {m : Mark} where
   pub want-keeps : (k : ℕ) → Keeps m Plain (want k)
@@ -111,6 +111,15 @@ Fresh m link = m .nodes < link
 -- a row of which that holds
 abbrev pub Row : Mark → Kids → Type 0
 Row m k = Mine m (k .last)
+
+-- the row that a caller hands over; and any row, where nothing need stay
+pub row-behind : (s : State) (link : ℕ) → Mine (markBehind s link) link
+row-behind s zero = none
+row-behind s (suc i) = theirs refl
+
+pub ground-mine : (link : ℕ) → Mine ground link
+ground-mine zero = none
+ground-mine (suc i) = ours {i = i} (omega arith)
 
 module _ {m : Mark} where
   pub fresh-mine : (link : ℕ) → Fresh m link → Mine m link

@@ -15,3 +15,5 @@ pub mod Building
 pub mod Example
 pub mod Keeps
 pub mod Kept
+pub mod Spends
+pub mod Spent
