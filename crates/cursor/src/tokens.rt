@@ -52,7 +52,7 @@ fn past_trivia(tokens: &[u32], from: usize) -> usize
     ensures { λ r. ⌜ r ≡ pastTrivia (now (tokens .entry)) from ⌝ }
 {
     let mut at = from;
-    while kinds::is_trivia(kind_at(tokens, at)) {
+    while kind_at(tokens, at) < kinds::IDENT as u32 {
         at += 1;
     }
     at
