@@ -1,3 +1,5 @@
+pub mod ItemKeeps
 pub mod ItemPaths
 pub mod LitPaths
+pub mod TypeKeeps
 pub mod TypePaths

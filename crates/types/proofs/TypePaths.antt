@@ -11,12 +11,12 @@ use Rattle.cursor.specs.declared.Kids.{Kids}
 use Rattle.cursor.specs.Node as node
 use Rattle.cursor.specs.Sheet.{Sheet, rangeAt}
 use Rattle.cursor.specs.Rule.{World, Stop, Out, done, failed, refused, Rule, Next, more, stop, iterate}
-use Rattle.cursor.specs.Tokens.{startOf, bump}
+use Rattle.cursor.specs.Tokens.{startOf, bump, eatEol}
 use Rattle.cursor.specs.Checks.{check, eat, expect, pick}
 use Rattle.cursor.specs.Records.{add, noKids, flagged}
 use Rattle.types.specs.declared.items.Items.{Items}
 use Rattle.types.specs.Lits.{lit, ident}
-use Rattle.types.specs.Items.{start, close, pair, addSome, isEnded, so, afterLast, lastItem, itemsUntilWithLast}
+use Rattle.types.specs.Items.{start, close, pair, addSome, isEnded, so, afterLast, lastItem, itemTurn, itemsUntilWithLast}
 use Rattle.types.specs.Types as types
 use Rattle.types.specs.Types.{pickOne, ended, typeLastKind, typeEnd, unionTurn, union, type, returns, named, typedIdent, tableTyPair, tableTyOther, typeItem, typeLastItem, typeLast, lastOf, typeItems, typeParen, typeTable, typeFunction, typeChain, typeBy, typeAtom, atoms, params, closureParams}
 
@@ -345,11 +345,22 @@ module _ (e : Sheet) (atom : Rule ℕ) (kids : Kids) (s : State) (w : World) whe
   unfolding closureParams
   closure-on p = rw p
 
-  -- a list of items is the general one
-  pub items-are : (k : ℕ) → typeItems e atom k kids s w ≡ itemsUntilWithLast e (typeItem e atom k) (typeLastKind k) (typeLast e atom k) (typeEnd k) kids s w
-  unfolding typeItems
-  items-are k = refl
 
-  pub lasts-are : (k : ℕ) → lastOf e atom k kids s w ≡ lastItem e (typeLast e atom k) (typeEnd k) (so kids) s w
-  unfolding lastOf
-  lasts-are k = refl
+-- a list begins; and its last item, whatever name the end goes by
+module _ (e : Sheet) (atom : Rule ℕ) (k : ℕ) (kids : Kids) (s : State) (w : World) where
+  pub items-spent : {x : Stop} → eatEol e s w ≡ failed x → typeItems e atom k kids s w ≡ failed x
+  unfolding typeItems itemsUntilWithLast
+  items-spent p = rw p
+
+  module _ {end : ℕ} (q : end ≡ typeEnd k) where
+    pub items-begin : {s1 : State} {w1 : World} → eatEol e s w ≡ done s1 w1 tt → typeItems e atom k kids s w ≡ iterate e (itemTurn e (typeItem e atom k) (typeLastKind k) (typeLast e atom k) end) (so kids) s1 w1
+    unfolding typeItems itemsUntilWithLast
+    items-begin p = rw p (rw q)
+
+    pub last-is : lastOf e atom k kids s w ≡ lastItem e (typeLast e atom k) end (so kids) s w
+    unfolding lastOf
+    last-is = rw q
+
+-- a check of a kind that has another name
+pub check-as : (e : Sheet) (s : State) (w : World) {k m : ℕ} {o : Out Bool} → k ≡ m → check e k s w ≡ o → check e m s w ≡ o
+check-as e s w p q = rw p at q

@@ -1,4 +1,3 @@
 // Literals, names, types, patterns and parameters.
 pub mod items;
 pub mod lits;
-pub mod types;
