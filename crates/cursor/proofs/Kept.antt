@@ -24,7 +24,7 @@ use Rattle.cursor.proofs.Ends.{Ends, well, ill, cut, branch, either}
 use Rattle.cursor.proofs.TokenPaths.{past-ge}
 use Rattle.cursor.proofs.Finished.{Agree}
 use Rattle.cursor.proofs.Writes.{put-length, put-below, put-agree, write-agree, write-length}
-use Rattle.cursor.proofs.Stacked.{linked, added, add-is, roomFor}
+use Rattle.cursor.proofs.RecordPaths.{roomFor, linked, added, add-is}
 use Rattle.cursor.proofs.Keeps.{Later, later, later-refl, Mark, markBehind, ground, Stands, stands-later, Same, same-refl, same-trans, Kept, kept-refl, kept-nodes, Went, went-refl, earlier, Keeps, Plain, gives, ifs, binds, thens, Nexts, loops}
 
 module _ {m : Mark} where
@@ -100,7 +100,7 @@ error-same n xs i f from c h =
 
 -- what may be written behind: no record, the one whose next link is the mark's spare word, or a record at or above the mark
 pub data Mine (m : Mark) : ℕ → Type 0 where
-  none : Mine m 0
+  nothing : Mine m 0
   theirs : {i : ℕ} → cell i NEXT ≡ m .spare → Mine m (suc i)
   ours : {i : ℕ} → m .nodes ≤ i → Mine m (suc i)
 
@@ -109,21 +109,21 @@ abbrev pub Fresh : Mark → ℕ → Type 0
 Fresh m link = m .nodes < link
 
 -- a row of which that holds
-abbrev pub Row : Mark → Kids → Type 0
-Row m k = Mine m (k .last)
+abbrev pub RowFor : Mark → Kids → Type 0
+RowFor m k = Mine m (k .last)
 
 -- the row that a caller hands over; and any row, where nothing need stay
 pub row-behind : (s : State) (link : ℕ) → Mine (markBehind s link) link
-row-behind s zero = none
+row-behind s zero = nothing
 row-behind s (suc i) = theirs refl
 
 pub ground-mine : (link : ℕ) → Mine ground link
-ground-mine zero = none
+ground-mine zero = nothing
 ground-mine (suc i) = ours {i = i} (omega arith)
 
 module _ {m : Mark} where
   pub fresh-mine : (link : ℕ) → Fresh m link → Mine m link
-  fresh-mine zero h = none
+  fresh-mine zero h = nothing
   fresh-mine (suc i) h = ours {i = i} (omega arith)
 
   pub append-keeps : (l : Label) (first : ℕ) → Keeps m (Fresh m) (append l first)
@@ -135,12 +135,12 @@ module _ {m : Mark} where
   }
 
   linked-kept : {last : ℕ} (w : World) (link : ℕ) → Mine m last → Kept m w (withNodes w (linked (w .nodes) last link))
-  linked-kept w link none = kept-refl m w
+  linked-kept w link nothing = kept-refl m w
   linked-kept w link (theirs {i} q) = kept-nodes w (record { at = λ j k a b c n. put-agree (w .nodes) _ link 0 _ .at j k a b c (λ x. n (x ∙ q)) }) (put-length _ _ _)
   linked-kept w link (ours {i} p) = kept-nodes w (put-below (w .nodes) (cell i NEXT) link 0 (m .nodes) (omega arith)) (put-length _ _ _)
 
   -- one more in a row: what is written is the link behind its last child
-  pub add-keeps : (k : Kids) (link : ℕ) → Row m k → Mine m link → Keeps m (Row m) (add k link)
+  pub add-keeps : (k : Kids) (link : ℕ) → RowFor m k → Mine m link → Keeps m (RowFor m) (add k link)
   add-keeps k link p q = record { ends = λ s w h. rw (add-is k link s w) (well (record { later = later-refl s; kept = linked-kept w link p }, q)) }
 
   pub reflag-keeps : (link flags : ℕ) → Fresh m link → Keeps m Plain (reflag link flags)

@@ -17,3 +17,5 @@ pub mod Keeps
 pub mod Kept
 pub mod Spends
 pub mod Spent
+pub mod Told
+pub mod Unique
