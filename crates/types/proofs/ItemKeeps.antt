@@ -111,20 +111,22 @@ module _ (e : Sheet) where
       by longer false = first-spends (expect-spends kind.Comma refl) (λ _. thens (eat-eol-keeps e) (gives tt))
 
   module _ (item : Rule ℕ) (lastKind : ℕ) (last : Items → Rule Items) (end : ℕ) (keeps : Keeps ground Plain item) (keepsLast : (i : Items) → Keeps ground Plain (last i)) where
+    last-plain : (i : Items) → Keeps ground Plain (lastItem e last end i)
+    unfolding lastItem afterLast
+    last-plain i = binds (keepsLast i) (λ j _. thens (eat-eol-keeps e) (thens (expect-keeps e end) (gives tt)))
+
+    one-spends : (i : Items) → Spends e Further (oneItem e item end i)
+    unfolding oneItem
+    one-spends i = then-spends keeps (λ r. after-item-spends end (i .kids) r)
+
+    ended-spends : (i : Items) (c : Bool) → Spends e Further (ifSo (lastItem e last end i >>= (λ j. give (stop j))) (oneItem e item end i) c)
+    ended-spends i true = then-spends (last-plain i) (λ j. spares (λ x. x))
+    ended-spends i false = one-spends i
+
+    begun-spends : (i : Items) (b : Bool) → Spends e Further (ifSo (give (stop i)) (check e lastKind >>= (λ c. ifSo (lastItem e last end i >>= (λ j. give (stop j))) (oneItem e item end i) c)) b)
+    begun-spends i true = spares (λ x. x)
+    begun-spends i false = then-spends (check-keeps e lastKind) (ended-spends i)
+
     pub items-take : Takes e (itemTurn e item lastKind last end)
-    unfolding oneItem lastItem afterLast itemTurn
-    items-take = takes turn
-      where
-        one : (i : Items) → Spends e Further (oneItem e item end i)
-        one i = then-spends keeps (λ r. after-item-spends end (i .kids) r)
-
-        ended : (i : Items) (c : Bool) → Spends e Further (ifSo (lastItem e last end i >>= (λ j. give (stop j))) (oneItem e item end i) c)
-        ended i true = then-spends (binds (keepsLast i) (λ j _. thens (eat-eol-keeps e) (thens (expect-keeps e end) (gives tt)))) (λ j. spares (λ x. x))
-        ended i false = one i
-
-        begun : (i : Items) (b : Bool) → Spends e Further (ifSo (give (stop i)) (check e lastKind >>= (λ c. ifSo (lastItem e last end i >>= (λ j. give (stop j))) (oneItem e item end i) c)) b)
-        begun i true = spares (λ x. x)
-        begun i false = then-spends (check-keeps e lastKind) (ended i)
-
-        turn : (i : Items) → Spends e Further (itemTurn e item lastKind last end i)
-        turn i = then-spends (eat-keeps e end) (begun i)
+    unfolding itemTurn
+    items-take = takes (λ i. then-spends (eat-keeps e end) (begun-spends i))

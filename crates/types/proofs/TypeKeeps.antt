@@ -22,11 +22,11 @@ use Rattle.types.specs.Types.{pickOne, unionTurn, union, type, returns, 
 use Rattle.types.proofs.ItemKeeps.{ItemsFor, start-keeps, close-keeps, pair-keeps, add-some-keeps, lit-keeps, ident-keeps, items-keep, items-take}
 
 -- one of four
-picked : {A : Type 0} {P : A → Type 0} (k : ℕ) {a b c d : A} → P a → P b → P c → P d → P (pickOne k a b c d)
-picked zero p q r t = p
-picked (suc zero) p q r t = q
-picked (suc (suc zero)) p q r t = r
-picked (suc (suc (suc n))) p q r t = t
+picked : {A : Type 0} (P : A → Type 0) (k : ℕ) {a b c d : A} → P a → P b → P c → P d → P (pickOne k a b c d)
+picked P zero p q r t = p
+picked P (suc zero) p q r t = q
+picked P (suc (suc zero)) p q r t = r
+picked P (suc (suc (suc n))) p q r t = t
 
 module _ {m : Mark} (e : Sheet) (atom : Rule ℕ) (keeps : Keeps m (Fresh m) atom) where
   union-turn-keeps : (kids : Kids) → RowFor m kids → Keeps m (Nexts (RowFor m)) (unionTurn e atom kids)
@@ -64,7 +64,7 @@ module _ {m : Mark} (e : Sheet) (atom : Rule ℕ) (keeps : Keeps m (Fresh m) ato
 
   pub item-keeps : (k : ℕ) → Keeps m (Fresh m) (typeItem e atom k)
   unfolding typeItem
-  item-keeps k = record { ends = λ s w h. picked {P = EndsFrom m (Fresh m) s w} k (typed-keeps false .ends s w h) (typed-keeps true .ends s w h) (table-pair-keeps .ends s w h) (type-keeps .ends s w h) }
+  item-keeps k = record { ends = λ s w h. picked (EndsFrom m (Fresh m) s w) k (typed-keeps false .ends s w h) (typed-keeps true .ends s w h) (table-pair-keeps .ends s w h) (type-keeps .ends s w h) }
 
   last-item-keeps : (k : ℕ) → Keeps m (Fresh m) (typeLastItem e atom k)
   unfolding typeLastItem
@@ -93,7 +93,7 @@ module _ {m : Mark} (e : Sheet) (atom : Rule ℕ) (keeps : Keeps m (Fresh m) ato
 
   by-keeps : (from which : ℕ) → Keeps m (Fresh m) (typeBy e atom from which)
   unfolding typeBy
-  by-keeps from which = record { ends = λ s w h. picked {P = EndsFrom m (Fresh m) s w} which (paren-keeps from .ends s w h) (ident-keeps e .ends s w h) (table-keeps from .ends s w h) (ifs (eqb which 3) (function-keeps from) (lit-keeps e) .ends s w h) }
+  by-keeps from which = record { ends = λ s w h. picked (EndsFrom m (Fresh m) s w) which (paren-keeps from .ends s w h) (ident-keeps e .ends s w h) (table-keeps from .ends s w h) (ifs (eqb which 3) (function-keeps from) (lit-keeps e) .ends s w h) }
 
   pub atom-keeps : Keeps m (Fresh m) (typeAtom e atom)
   unfolding typeAtom

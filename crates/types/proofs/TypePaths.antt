@@ -345,7 +345,6 @@ module _ (e : Sheet) (atom : Rule ℕ) (kids : Kids) (s : State) (w : World) whe
   unfolding closureParams
   closure-on p = rw p
 
-
 -- a list begins; and its last item, whatever name the end goes by
 module _ (e : Sheet) (atom : Rule ℕ) (k : ℕ) (kids : Kids) (s : State) (w : World) where
   pub items-spent : {x : Stop} → eatEol e s w ≡ failed x → typeItems e atom k kids s w ≡ failed x
