@@ -1,3 +1,4 @@
 // Literals, names, types, patterns and parameters.
 pub mod items;
 pub mod lits;
+pub mod types;
