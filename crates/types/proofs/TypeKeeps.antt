@@ -22,7 +22,7 @@ use Rattle.types.specs.Types.{pickOne, unionTurn, union, type, returns, 
 use Rattle.types.proofs.ItemKeeps.{ItemsFor, start-keeps, close-keeps, pair-keeps, add-some-keeps, lit-keeps, ident-keeps, items-keep, items-take}
 
 -- one of four
-picked : {A : Type 0} (P : A → Type 0) (k : ℕ) {a b c d : A} → P a → P b → P c → P d → P (pickOne k a b c d)
+pub picked : {A : Type 0} (P : A → Type 0) (k : ℕ) {a b c d : A} → P a → P b → P c → P d → P (pickOne k a b c d)
 picked P zero p q r t = p
 picked P (suc zero) p q r t = q
 picked P (suc (suc zero)) p q r t = r

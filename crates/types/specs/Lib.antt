@@ -2,3 +2,4 @@ pub mod Lits
 pub mod Items
 pub mod Answers
 pub mod Types
+pub mod Patterns
