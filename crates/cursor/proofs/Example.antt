@@ -2,20 +2,20 @@
 -- row that the caller began, as a loop, with what it keeps and that each turn takes a token.
 use mathlib.Core.Path.{_≡_, refl}
 use mathlib.Core.List.{List, _∷_}
-use Prim.Native.Nat.{ℕ, _+_}
+use Prim.Native.Nat.{ℕ}
 use native.Mathlib.Omega.{arith}
 use Rattle.kinds.specs.Number as kind
 use Rattle.cursor.specs.declared.State.{State}
 use Rattle.cursor.specs.declared.Kids.{Kids}
 use Rattle.cursor.specs.declared.Label.{Label}
-use Rattle.cursor.specs.Rule.{World, done, Rule, _>>=_, _>>_, give, ifSo, Next, more, stop, Turn, iterate}
+use Rattle.cursor.specs.Rule.{World, done, Rule, _>>=_, _>>_, give, ifSo, more, stop, Turn, iterate}
 use Rattle.cursor.specs.Sheet.{Sheet}
 use Rattle.cursor.specs.Checks.{eat}
 use Rattle.cursor.specs.Records.{append, add, reflag, noKids}
 use Rattle.cursor.specs.Tree.{none, node, join, tree}
 use Rattle.cursor.proofs.Ends.{Ends, well, Any, at-done}
 use Rattle.cursor.proofs.Loops.{Takes}
-use Rattle.cursor.proofs.Keeps.{Mark, markBehind, behind-stands, Went, Keeps, Plain, gives, ifs, binds, thens, Nexts, loops}
+use Rattle.cursor.proofs.Keeps.{Mark, markBehind, behind-stands, Went, Keeps, gives, ifs, binds, thens, Nexts, loops}
 use Rattle.cursor.proofs.Kept.{eat-keeps, append-keeps, add-keeps, reflag-keeps, Fresh, RowFor, nothing, row-behind, fresh-mine, ground-mine}
 use Rattle.cursor.proofs.Spends.{takes, spares, if-spends}
 use Rattle.cursor.proofs.Spent.{eat-spends}
