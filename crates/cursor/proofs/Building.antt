@@ -8,7 +8,7 @@ use Rattle.cursor.specs.declared.State.{State}
 use Rattle.cursor.specs.declared.Fault.{Fault}
 use Rattle.cursor.specs.declared.Kids.{Kids}
 use Rattle.cursor.specs.declared.Label.{Label}
-use Rattle.cursor.specs.Rule.{World, Out, done, bind}
+use Rattle.cursor.specs.Rule.{World, Out, bind}
 use Rattle.cursor.specs.Records.{withNodes, append, add, reflag}
 use Rattle.cursor.specs.Tree.{Trees, join, tree}
 use Rattle.cursor.proofs.Ends.{Ends, well, cut, then}

@@ -4,19 +4,18 @@
 use mathlib.Core.Path.{_≡_, refl, _∙_}
 use mathlib.Core.List.{List}
 use mathlib.Core.Bool.{Bool, true, false}
-use Prim.Native.Nat.{ℕ, zero, suc, _+_, _*_, _<_, _≤_}
+use Prim.Native.Nat.{ℕ, zero, suc, _*_, _<_, _≤_}
 use native.Mathlib.Nat.{le-refl, le-trans}
 use native.Mathlib.Omega.{arith}
 use lib.ListN.{length, getD}
 use Rattle.cursor.specs.declared.State.{State}
-use Rattle.cursor.specs.declared.Fault.{Fault}
 use Rattle.cursor.specs.Layout.{nodeWords, NEXT, cell, errorWords}
 use Rattle.cursor.specs.Sheet.{Sheet}
-use Rattle.cursor.specs.Rule.{World, Out, done, failed, fault, refused, bind, Rule, _>>=_, _>>_, give, refuse, ifSo, orElse, Next, more, stop, Turn, next, turns, iterate}
+use Rattle.cursor.specs.Rule.{World, Out, Rule, _>>=_, _>>_, give, refuse, ifSo, Next, more, stop, Turn, next, turns, iterate}
 use Rattle.cursor.specs.Tokens.{rewind}
 use Rattle.cursor.specs.Records.{withNodes}
 use Rattle.cursor.specs.Attempts.{attempt}
-use Rattle.cursor.proofs.Ends.{Ends, well, ill, cut, then, either, weaken}
+use Rattle.cursor.proofs.Ends.{Ends, well, cut, then, either, weaken}
 use Rattle.cursor.proofs.Finished.{Agree}
 
 -- the place, the readings and the counts of one state are not below another's

@@ -1,31 +1,29 @@
 -- What each rule of this crate keeps (Keeps). Each is stated for any mark; a rule on records says which links it may be handed.
-use mathlib.Core.Path.{_≡_, refl, sym, _∙_}
+use mathlib.Core.Path.{_≡_, refl, _∙_}
 use mathlib.Core.List.{List, [], _∷_}
-use mathlib.Core.Bool.{Bool, true, false}
 use Prim.Native.Nat.{ℕ, zero, suc, _+_, _*_, _/_, _<_, _≤_, min}
 use native.Mathlib.Omega.{arith}
 use native.Mathlib.Nat.{le-refl, le-trans}
 use lib.Dec.{ltb, leb, eqb}
-use lib.ListN.{length, getD}
+use lib.ListN.{length}
 use lib.Seq.{getD-set-other}
 use Rattle.cursor.specs.declared.State.{State}
 use Rattle.cursor.specs.declared.Fault.{Fault}
 use Rattle.cursor.specs.declared.Kids.{Kids}
 use Rattle.cursor.specs.declared.Label.{Label}
-use Rattle.cursor.specs.Layout.{nodeWords, NEXT, FLAGS, cell, errorWords, errorCell, nodeLimit, errorLimit, expectedLimit}
+use Rattle.cursor.specs.Layout.{NEXT, FLAGS, cell, errorWords, errorCell, errorLimit, expectedLimit}
 use Rattle.cursor.specs.Sheet.{Sheet, count, kindAt}
 use Rattle.cursor.specs.Buffer.{put, copy}
-use Rattle.cursor.specs.Rule.{World, Out, done, failed, fault, refused, Rule, Next, more, stop}
+use Rattle.cursor.specs.Rule.{World, Rule}
 use Rattle.cursor.specs.Tokens.{eatTrivia, bump, eolTurn, eatEol}
-use Rattle.cursor.specs.Checks.{liveRoom, want, check, eat, expect, eatRange, unexpected, pickFrom, pick}
-use Rattle.cursor.specs.Records.{write, withNodes, append, add, reflag, listLength, writeError, log}
+use Rattle.cursor.specs.Checks.{liveRoom, want, check, eat, expect, eatRange, unexpected, pickFrom}
+use Rattle.cursor.specs.Records.{withNodes, append, add, reflag, listLength, writeError, log}
 use Rattle.cursor.specs.Attempts.{unbuilt, recover}
-use Rattle.cursor.proofs.Ends.{Ends, well, ill, cut, branch, either}
+use Rattle.cursor.proofs.Ends.{well, ill, cut, branch, either}
 use Rattle.cursor.proofs.TokenPaths.{past-ge}
-use Rattle.cursor.proofs.Finished.{Agree}
 use Rattle.cursor.proofs.Writes.{put-length, put-below, put-agree, write-agree, write-length}
-use Rattle.cursor.proofs.RecordPaths.{roomFor, linked, added, add-is}
-use Rattle.cursor.proofs.Keeps.{Later, later, later-refl, Mark, markBehind, ground, Stands, stands-later, Same, same-refl, same-trans, Kept, kept-refl, kept-nodes, Went, went-refl, earlier, Keeps, Plain, gives, ifs, binds, thens, Nexts, loops}
+use Rattle.cursor.proofs.RecordPaths.{roomFor, linked, add-is}
+use Rattle.cursor.proofs.Keeps.{later, later-refl, Mark, markBehind, ground, stands-later, Same, same-refl, same-trans, Kept, kept-refl, kept-nodes, went-refl, earlier, Keeps, Plain, gives, ifs, binds, thens, Nexts, loops}
 
 module _ {m : Mark} where
   pub want-keeps : (k : ℕ) → Keeps m Plain (want k)

@@ -1,6 +1,6 @@
 -- Each way through the rules that write records.
-use mathlib.Core.Path.{_≡_, refl, sym, ap, _∙_}
-use mathlib.Core.List.{List, [], _∷_}
+use mathlib.Core.Path.{_≡_, refl, sym, _∙_}
+use mathlib.Core.List.{List}
 use mathlib.Core.Bool.{Bool, true, false}
 use Prim.Native.Nat.{ℕ, zero, suc, _+_, _-_, _*_, _/_, _<_, _≤_, min}
 use native.Mathlib.Omega.{arith}
@@ -14,9 +14,9 @@ use Rattle.cursor.specs.declared.Kids.{Kids}
 use Rattle.cursor.specs.declared.Label.{Label}
 use Rattle.cursor.specs.Buffer.{put, copy}
 use Rattle.cursor.specs.Layout.{nodeWords, NEXT, FLAGS, cell, errorWords, nodeLimit, errorLimit, expectedLimit}
-use Rattle.cursor.specs.Rule.{World, Stop, refused, Out, done, failed}
+use Rattle.cursor.specs.Rule.{World, refused, done, failed}
 use Rattle.cursor.specs.Checks.{liveRoom}
-use Rattle.cursor.specs.Records.{word32, bit, write, withNodes, append, add, reflag, listLength, writeError, logged, log}
+use Rattle.cursor.specs.Records.{word32, bit, write, withNodes, append, add, reflag, listLength, writeError, log}
 
 -- the smaller of a room and a limit, as the code picks it
 pub within-room : {a b : ℕ} → a < b → a ≡ min a b

@@ -2,14 +2,18 @@
 -- has to; `takes` then gives what the lemmas of Loops ask for. The rest of a turn need only keep the place (Keeps, at the mark `ground`). As with
 -- Keeps, a proof is one term that mirrors the rule's text; Spent has the rules of this crate.
 use mathlib.Core.Bool.{Bool, true, false}
-use Prim.Native.Nat.{ℕ, _-_, _<_, _≤_}
+use Prim.Native.Nat.{_<_, _≤_}
 use native.Mathlib.Omega.{arith}
 use Rattle.cursor.specs.declared.State.{State}
 use Rattle.cursor.specs.Sheet.{Sheet, count}
-use Rattle.cursor.specs.Rule.{World, Rule, _>>=_, give, ifSo, Next, more, stop, Turn}
-use Rattle.cursor.proofs.Ends.{Ends, well, Any, then, weaken, both}
+use Rattle.cursor.specs.declared.Fault.{Fault}
+use Rattle.cursor.specs.Rule.{World, Out, bind, Rule, _>>=_, orElse, give, ifSo, Next, more, stop, Turn}
+use Rattle.cursor.specs.Tokens.{rewind}
+use Rattle.cursor.specs.Attempts.{attempt, unbuilt, recover}
+use Rattle.cursor.proofs.Ends.{Ends, well, ill, cut, Any, then, weaken, both}
 use Rattle.cursor.proofs.Loops.{left, Goes, on, off, Takes}
 use Rattle.cursor.proofs.Keeps.{ground, ground-stands, Keeps, Plain}
+use Rattle.cursor.proofs.Kept.{log-keeps}
 
 -- where its answer is as W says, the rule leaves fewer tokens
 pub record Spends {A : Type 0} (e : Sheet) (W : A → Type 0) (r : Rule A) : Type 0 where
@@ -78,3 +82,23 @@ module _ {A : Type 0} {e : Sheet} {W : A → Type 0} where
       by : (s s1 : State) (w1 : World) (b : Bool) → s .at ≤ s1 .at → (Holds b → left e s1 < left e s) → Ends (λ s2 _ a. W a → left e s2 < left e s) Any (ifSo p q b s1 w1)
       by s s1 w1 true l f = rests e s s1 w1 y (f tt)
       by s s1 w1 false l f = weaken (z .ends s1 w1) (λ s2 w2 a g o. let u = g o in omega arith) (λ _ _ _ _. tt)
+
+-- a rule with another one for where it fails: what is owed where it does not
+instead : {A B : Type 0} {P : State → World → B → Type 0} {o : Out A} {back : State → World → Fault → Out B} (k : State → World → A → Out B) → Ends (λ _ _ _. Unit {0}) (λ s w f. Ends P Any (back s w f)) o → Ends P Any (bind o k) → Ends P Any (orElse o k back)
+instead k (well p) x = x
+instead k (ill p) x = p
+instead k cut x = cut
+
+module _ {A B : Type 0} {e : Sheet} {W : B → Type 0} {G : A → Type 0} {r : Rule A} {back : Rule B} (k : A → Rule B) (keeps : Keeps ground G r) (kept : Spends e W (r >>= k)) (other : Spends e W back) where
+  -- an attempt that takes a token where it is kept; where it is undone the other rule has to
+  pub attempt-spends : Spends e W (attempt r k back)
+  unfolding attempt rewind
+  attempt-spends = record { ends = λ s w. instead (λ s1 w1 a. k a s1 w1) (weaken (keeps .ends s w (ground-stands s)) (λ _ _ _ _. tt) (λ s1 w1 f p. other .ends _ w1)) (kept .ends s w) }
+
+  -- recovery likewise: the other rule begins where the first one failed
+  pub recover-spends : Spends e W (recover r k back)
+  unfolding recover
+  recover-spends = record {
+    ends = λ s w. instead (λ s1 w1 a. k a s1 w1) (weaken (keeps .ends s w (ground-stands s)) (λ _ _ _ _. tt)
+        (λ s1 w1 f p. let l = p .later .at in weaken (then-spends (log-keeps f) (λ _. other) .ends (unbuilt s s1) w1) (λ s2 w2 b h o. let z = h o in omega arith) (λ _ _ _ _. tt))) (kept .ends s w);
+  }

@@ -1,16 +1,16 @@
 -- The rules on records over the stack: from the stack before, how the rule ends and the stack after.
 use mathlib.Core.Path.{_≡_, refl, sym, subst}
-use mathlib.Core.List.{List, [], _∷_}
-use Prim.Native.Nat.{ℕ, zero, suc, _+_, _*_, _/_, _<_, _≤_, min}
+use mathlib.Core.List.{List, _∷_}
+use Prim.Native.Nat.{ℕ, zero, suc, _+_, _<_}
 use native.Mathlib.Omega.{arith}
 use native.Mathlib.Numerals.{add-one}
 use Rattle.cursor.specs.declared.State.{State}
 use Rattle.cursor.specs.declared.Kids.{Kids}
 use Rattle.cursor.specs.declared.Label.{Label}
-use Rattle.cursor.specs.Layout.{nodeWords, NEXT, FLAGS, cell, nodeLimit}
-use Rattle.cursor.specs.Rule.{World, refused, Out, done, failed}
+use Rattle.cursor.specs.Layout.{FLAGS, cell}
+use Rattle.cursor.specs.Rule.{World, Out, done}
 use Rattle.cursor.specs.Buffer.{put}
-use Rattle.cursor.specs.Records.{word32, write, withNodes, append, add, reflag}
+use Rattle.cursor.specs.Records.{write, withNodes, append, add, reflag}
 use Rattle.cursor.specs.Tree.{Trees, join, tree}
 use Rattle.cursor.proofs.RecordPaths.{roomFor, counted, append-room, linked, firstOf, added, add-is, reflag-on}
 use Rattle.cursor.proofs.Stack.{Entry, whole, row, Stack, link-some}

@@ -1,5 +1,5 @@
 -- Each way through the rules on tokens.
-use mathlib.Core.Path.{_≡_, refl, sym, ap, _∙_}
+use mathlib.Core.Path.{_≡_, refl, sym, _∙_}
 use mathlib.Core.List.{List}
 use mathlib.Core.Bool.{Bool, true, false}
 use Prim.Native.Nat.{ℕ, zero, suc, _+_, _-_, _*_, _/_, _<_, _≤_}
@@ -15,9 +15,9 @@ use Rattle.cursor.specs.declared.State.{State}
 use Rattle.cursor.specs.declared.Ranged.the-variants as ranged
 use Rattle.cursor.specs.Sheet.{Sheet, count, kindAt, rangeAt}
 use Rattle.cursor.specs.Rule.{World, Stop, done, failed, refused, more, stop, iterate}
-use Rattle.cursor.specs.Tokens.{pastFrom, pastTrivia, startOf, endOf, eatTrivia, bump, eolTurn, eatEol, rewind}
+use Rattle.cursor.specs.Tokens.{pastFrom, pastTrivia, eatTrivia, bump, eolTurn, eatEol, rewind}
 use Rattle.cursor.proofs.Ends.{Ends, well, cut, Any, branch, then}
-use Rattle.cursor.proofs.Loops.{left, Goes, on, off, Takes}
+use Rattle.cursor.proofs.Loops.{left, on, off, Takes}
 
 pub kind-in : (ts : List ℕ) (i : ℕ) → i < length ts / 3 → kindAt ts i ≡ getD ts (i * 3) 0
 unfolding kindAt count

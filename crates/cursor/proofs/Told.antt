@@ -20,7 +20,7 @@ use Rattle.cursor.specs.declared.Built.the-variants as builds
 use Rattle.cursor.specs.declared.Ranged.{Ranged}
 use Rattle.cursor.specs.declared.Ranged.the-variants as ranged
 use Rattle.cursor.specs.Rule.{World, Stop, fault, refused, Out, done, failed}
-use Rattle.cursor.specs.Answers.{asStop, asMoved, asTest, asEaten, asPicked, asBuilt}
+use Rattle.cursor.specs.Answers.{asMoved, asTest, asEaten, asPicked, asBuilt}
 
 -- the reading goes on, or stops by an error: only a refusal says nothing of the buffers
 abbrev pub Settled : {A : Type 0} → Out A → Type 0

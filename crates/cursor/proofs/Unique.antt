@@ -7,7 +7,7 @@ use mathlib.Core.List.{List, []}
 use Prim.Native.Nat.{ℕ}
 use Rattle.cursor.specs.declared.State.{State}
 use Rattle.cursor.specs.declared.Limits.{Limits}
-use Rattle.cursor.specs.Rule.{World, world, Out, done}
+use Rattle.cursor.specs.Rule.{World, world}
 use Rattle.cursor.specs.Answers.{asMoved, asTest, asEaten, asPicked, asBuilt}
 use Rattle.cursor.proofs.Told.{Settled, heldBy, one, moved, tested, eaten, picked, built}
 use Rattle.cursor.proofs.tokens.current_kind.Reads as current-kind
