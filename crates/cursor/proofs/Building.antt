@@ -1,4 +1,5 @@
 -- The rules on records as steps: what is owed of what goes on from them, the stack after being known.
+use mathlib.Core.Path.{refl}
 use mathlib.Core.List.{List, _∷_}
 use Prim.Native.Nat.{ℕ, _+_, _<_}
 use native.Mathlib.Omega.{arith}
@@ -7,13 +8,14 @@ use Rattle.cursor.specs.declared.State.{State}
 use Rattle.cursor.specs.declared.Fault.{Fault}
 use Rattle.cursor.specs.declared.Kids.{Kids}
 use Rattle.cursor.specs.declared.Label.{Label}
-use Rattle.cursor.specs.Rule.{World, Out, done, bind}
+use Rattle.cursor.specs.Rule.{World, Out, bind}
 use Rattle.cursor.specs.Records.{withNodes, append, add, reflag}
 use Rattle.cursor.specs.Tree.{Trees, join, tree}
 use Rattle.cursor.proofs.Ends.{Ends, well, cut, then}
 use Rattle.cursor.proofs.Stack.{Entry, whole, row, Stack}
 use Rattle.cursor.proofs.Grows.{flagged}
-use Rattle.cursor.proofs.Stacked.{roomFor, counted, append-full, append-stack, added, add-stack, add-late, reflag-stack}
+use Rattle.cursor.proofs.RecordPaths.{roomFor, counted, append-full, added}
+use Rattle.cursor.proofs.Stacked.{append-stack, add-stack, add-late, reflag-stack}
 
 module _ {P : State → World → ℕ → Type 0} {F : State → World → Fault → Type 0} where
   -- a record over a row, as the last step
@@ -23,7 +25,7 @@ module _ {P : State → World → ℕ → Type 0} {F : State → World → Fault
     where
       by : Dec (s .nodes < roomFor w) → Ends P F (append l first s w)
       by (yes h) = let x = append-stack l first s w st h in rw (x .is) (well (p _ (x .stack)))
-      by (no h) = rw (append-full l first s w (omega arith)) cut
+      by (no h) = rw (append-full l first s w refl (omega arith)) cut
 
 module _ {B : Type 0} {Q : State → World → B → Type 0} {F : State → World → Fault → Type 0} where
   -- a record over a row, and what goes on from it

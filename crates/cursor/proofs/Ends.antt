@@ -32,6 +32,12 @@ module _ {A : Type 0} {P Q : State → World → A → Type 0} {F G : State → 
   weaken (ill h) f g = ill (g _ _ _ h)
   weaken cut f g = cut
 
+  -- what is known of an end in two ways
+  pub both : {o : Out A} → Ends P F o → Ends Q G o → Ends (λ s w a. P s w a × Q s w a) (λ s w f. F s w f × G s w f) o
+  both (well p) (well q) = well (p, q)
+  both (ill p) (ill q) = ill (p, q)
+  both cut cut = cut
+
 module _ {A B : Type 0} {P : State → World → A → Type 0} {Q : State → World → B → Type 0} {F G : State → World → Fault → Type 0} where
   -- first a rule, then what goes on from it
   pub then : {o : Out A} {k : State → World → A → Out B} → Ends P F o → ((s : State) (w : World) (f : Fault) → F s w f → G s w f) → ((s : State) (w : World) (a : A) → P s w a → Ends Q G (k s w a)) → Ends Q G (bind o k)

@@ -13,3 +13,9 @@ pub mod Grows
 pub mod Stacked
 pub mod Building
 pub mod Example
+pub mod Keeps
+pub mod Kept
+pub mod Spends
+pub mod Spent
+pub mod Told
+pub mod Unique

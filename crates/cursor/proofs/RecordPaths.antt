@@ -1,11 +1,12 @@
 -- Each way through the rules that write records.
-use mathlib.Core.Path.{_≡_, refl, sym, ap, _∙_}
-use mathlib.Core.List.{List, [], _∷_}
+use mathlib.Core.Path.{_≡_, refl, sym, _∙_}
+use mathlib.Core.List.{List}
 use mathlib.Core.Bool.{Bool, true, false}
 use Prim.Native.Nat.{ℕ, zero, suc, _+_, _-_, _*_, _/_, _<_, _≤_, min}
 use native.Mathlib.Omega.{arith}
 use native.Mathlib.Nat.{min-eq-left, min-eq-right, le-of-lt}
 use lib.ListN.{length, set, getD}
+use lib.Seq.{set-out}
 use borrow.Author.Tests.{lt-ltb, le-ltb, le-leb, lt-leb}
 use Rattle.cursor.specs.declared.State.{State}
 use Rattle.cursor.specs.declared.Fault.{Fault}
@@ -13,9 +14,9 @@ use Rattle.cursor.specs.declared.Kids.{Kids}
 use Rattle.cursor.specs.declared.Label.{Label}
 use Rattle.cursor.specs.Buffer.{put, copy}
 use Rattle.cursor.specs.Layout.{nodeWords, NEXT, FLAGS, cell, errorWords, nodeLimit, errorLimit, expectedLimit}
-use Rattle.cursor.specs.Rule.{World, Stop, refused, Out, done, failed}
+use Rattle.cursor.specs.Rule.{World, refused, done, failed}
 use Rattle.cursor.specs.Checks.{liveRoom}
-use Rattle.cursor.specs.Records.{word32, bit, write, withNodes, append, add, reflag, listLength, writeError, logged, log}
+use Rattle.cursor.specs.Records.{word32, bit, write, withNodes, append, add, reflag, listLength, writeError, log}
 
 -- the smaller of a room and a limit, as the code picks it
 pub within-room : {a b : ℕ} → a < b → a ≡ min a b
@@ -27,21 +28,27 @@ within-limit p = sym (min-eq-right p)
 -- a store past the end changes nothing
 pub put-past : (xs : List ℕ) (i a : ℕ) → length xs ≤ i → put xs i a ≡ xs
 unfolding put
-put-past [] i a h = refl
-put-past (x ∷ xs) zero a h = absurd (omega arith)
-put-past (x ∷ xs) (suc i) a h = ap (λ (ys : List ℕ). x ∷ ys) (put-past xs i a (omega arith))
+put-past xs i a h = set-out xs i a h
 
 -- the eight stores of a record
 pub written : (xs : List ℕ) (n : ℕ) (l : Label) (first : ℕ) → set (set (set (set (set (set (set (set xs (8 * n + 0) (l .kind)) (8 * n + 1) (l .start)) (8 * n + 2) (l .end)) (8 * n + 3) first) (8 * n + 4) 0) (8 * n + 5) (l .one)) (8 * n + 6) (l .two)) (8 * n + 7) (l .flags) ≡ write xs n l first
 unfolding write put
 written xs n l first = refl
 
-module _ (l : Label) (first : ℕ) (s : State) (w : World) {room : ℕ} (r : room ≡ min (length (w .nodes) / nodeWords) nodeLimit) where
+-- how many node records there is room for
+abbrev pub roomFor : World → ℕ
+roomFor w = min (length (w .nodes) / nodeWords) nodeLimit
+
+-- one record more
+abbrev pub counted : State → State
+counted s = record { at = s .at; prev = s .prev; reads = s .reads; nodes = s .nodes + 1; errors = s .errors; wanted = s .wanted; live = s .live }
+
+module _ (l : Label) (first : ℕ) (s : State) (w : World) {room : ℕ} (r : room ≡ roomFor w) where
   pub append-full : room ≤ s .nodes → append l first s w ≡ failed (refused 7)
   unfolding append
   append-full p = rw (le-ltb _ _ (rw r at p), append)
 
-  pub append-room : {xs : List ℕ} → s .nodes < room → xs ≡ write (w .nodes) (s .nodes) l first → append l first s w ≡ done (record { at = s .at; prev = s .prev; reads = s .reads; nodes = s .nodes + 1; errors = s .errors; wanted = s .wanted; live = s .live }) (withNodes w xs) (s .nodes + 1)
+  pub append-room : {xs : List ℕ} → s .nodes < room → xs ≡ write (w .nodes) (s .nodes) l first → append l first s w ≡ done (counted s) (withNodes w xs) (s .nodes + 1)
   unfolding append
   append-room p q = rw (lt-ltb _ _ (rw r at p), append) (rw q)
 
@@ -53,6 +60,26 @@ module _ (k : Kids) (link : ℕ) (s : State) (w : World) where
   pub add-more : {n i : ℕ} {xs : List ℕ} → k .last ≡ suc i → n ≡ word32 (k .count + 1) → xs ≡ put (w .nodes) (cell i NEXT) link → add k link s w ≡ done s (withNodes w xs) (record { first = k .first; last = link; count = n })
   unfolding add
   add-more p q r = rw (p, add) (rw (q, r))
+
+-- the buffer, and the row, with one more child that a link leads to
+abbrev pub linked : List ℕ → ℕ → ℕ → List ℕ
+linked xs zero link = xs
+linked xs (suc i) link = put xs (cell i NEXT) link
+
+abbrev pub firstOf : ℕ → ℕ → ℕ → ℕ
+firstOf zero first link = link
+firstOf (suc i) first link = first
+
+abbrev pub added : Kids → ℕ → Kids
+added k link = record { first = firstOf (k .last) (k .first) link; last = link; count = word32 (k .count + 1) }
+
+-- the two ways of `add` in one equation
+pub add-is : (k : Kids) (link : ℕ) (s : State) (w : World) → add k link s w ≡ done s (withNodes w (linked (w .nodes) (k .last) link)) (added k link)
+add-is k link s w = go (k .first) (k .last) (k .count)
+  where
+    go : (f n c : ℕ) → let k1 : Kids = record { first = f; last = n; count = c } in add k1 link s w ≡ done s (withNodes w (linked (w .nodes) n link)) (added k1 link)
+    go f zero c = add-first _ link s w refl refl
+    go f (suc i) c = add-more _ link s w refl refl refl
 
 module _ (link flags : ℕ) (s : State) (w : World) where
   pub reflag-none : link ≡ 0 → reflag link flags s w ≡ done s w tt

@@ -1,19 +1,18 @@
 -- The rules on records over the stack: from the stack before, how the rule ends and the stack after.
 use mathlib.Core.Path.{_≡_, refl, sym, subst}
-use mathlib.Core.List.{List, [], _∷_}
-use Prim.Native.Nat.{ℕ, zero, suc, _+_, _*_, _/_, _<_, _≤_, min}
+use mathlib.Core.List.{List, _∷_}
+use Prim.Native.Nat.{ℕ, zero, suc, _+_, _<_}
 use native.Mathlib.Omega.{arith}
 use native.Mathlib.Numerals.{add-one}
-use lib.ListN.{length}
-use borrow.Author.Tests.{lt-ltb, le-ltb}
 use Rattle.cursor.specs.declared.State.{State}
 use Rattle.cursor.specs.declared.Kids.{Kids}
 use Rattle.cursor.specs.declared.Label.{Label}
-use Rattle.cursor.specs.Layout.{nodeWords, NEXT, FLAGS, cell, nodeLimit}
-use Rattle.cursor.specs.Rule.{World, refused, Out, done, failed}
+use Rattle.cursor.specs.Layout.{FLAGS, cell}
+use Rattle.cursor.specs.Rule.{World, Out, done}
 use Rattle.cursor.specs.Buffer.{put}
-use Rattle.cursor.specs.Records.{word32, write, withNodes, append, add, reflag}
+use Rattle.cursor.specs.Records.{write, withNodes, append, add, reflag}
 use Rattle.cursor.specs.Tree.{Trees, join, tree}
+use Rattle.cursor.proofs.RecordPaths.{roomFor, counted, append-room, linked, firstOf, added, add-is, reflag-on}
 use Rattle.cursor.proofs.Stack.{Entry, whole, row, Stack, link-some}
 use Rattle.cursor.proofs.Grows.{wrap, link-first, link-next, link-late, flagged, change-flags}
 
@@ -22,56 +21,23 @@ pub record Leaves {A : Type 0} (o : Out A) (s : State) (w : World) (a : A) (es :
   pub is : o ≡ done s w a
   pub stack : Stack (w .nodes) (s .nodes) es
 
--- how many records there is room for
-abbrev pub roomFor : World → ℕ
-roomFor w = min (length (w .nodes) / nodeWords) nodeLimit
-
--- one record more
-abbrev pub counted : State → State
-counted s = record { at = s .at; prev = s .prev; reads = s .reads; nodes = s .nodes + 1; errors = s .errors; wanted = s .wanted; live = s .live }
-
 module _ (l : Label) (first : ℕ) (s : State) (w : World) where
   abbrev pub withRecord : World
   withRecord = withNodes w (write (w .nodes) (s .nodes) l first)
 
-  pub append-full : roomFor w ≤ s .nodes → append l first s w ≡ failed (refused 7)
-  unfolding append
-  append-full h = rw (le-ltb _ _ h, append)
-
   -- a record over a row
   pub append-stack : {lo last : ℕ} {ks : Trees} {es : List Entry} → Stack (w .nodes) (s .nodes) (row lo first last ks ∷ es) → s .nodes < roomFor w
       → Leaves (append l first s w) (counted s) withRecord (s .nodes + 1) (whole lo (s .nodes + 1) last l ks ∷ es)
-  unfolding append
   append-stack {lo} {last} {ks} {es} st h = record {
-    is = rw (lt-ltb _ _ h, append);
+    is = append-room l first s w refl h refl;
     stack = subst (λ n. Stack (withRecord .nodes) n (whole lo n last l ks ∷ es)) (sym (add-one (s .nodes))) (wrap l st (omega arith));
   }
 
--- the buffer, and the row, with one more child that a link leads to
-abbrev pub linked : List ℕ → ℕ → ℕ → List ℕ
-linked xs zero link = xs
-linked xs (suc i) link = put xs (cell i NEXT) link
-
-abbrev pub firstOf : ℕ → ℕ → ℕ → ℕ
-firstOf zero first link = link
-firstOf (suc i) first link = first
-
-abbrev pub added : Kids → ℕ → Kids
-added k link = record { first = firstOf (k .last) (k .first) link; last = link; count = word32 (k .count + 1) }
-
 module _ (k : Kids) (link : ℕ) (s : State) (w : World) where
-  pub add-is : add k link s w ≡ done s (withNodes w (linked (w .nodes) (k .last) link)) (added k link)
-  unfolding add
-  add-is = go (k .first) (k .last) (k .count)
-    where
-      go : (f n c : ℕ) → let k1 : Kids = record { first = f; last = n; count = c } in add k1 link s w ≡ done s (withNodes w (linked (w .nodes) n link)) (added k1 link)
-      go f zero c = refl
-      go f (suc i) c = refl
-
   -- one more in a row
   pub add-stack : {lo mid last : ℕ} {l : Label} {ts ks : Trees} {es : List Entry} → Stack (w .nodes) (s .nodes) (whole mid link last l ks ∷ row lo (k .first) (k .last) ts ∷ es)
       → Leaves (add k link s w) s (withNodes w (linked (w .nodes) (k .last) link)) (added k link) (row lo (added k link .first) link (join ts (tree l ks)) ∷ es)
-  add-stack {lo} {mid} {last} {l} {ts} {ks} {es} st = record { is = add-is; stack = go (k .last) st }
+  add-stack {lo} {mid} {last} {l} {ts} {ks} {es} st = record { is = add-is k link s w; stack = go (k .last) st }
     where
       go : (n : ℕ) → Stack (w .nodes) (s .nodes) (whole mid link last l ks ∷ row lo (k .first) n ts ∷ es) → Stack (linked (w .nodes) n link) (s .nodes) (row lo (firstOf n (k .first) link) link (join ts (tree l ks)) ∷ es)
       go zero x = link-first x
@@ -80,7 +46,7 @@ module _ (k : Kids) (link : ℕ) (s : State) (w : World) where
   -- a late child of a finished tree, whose last child the row ends with
   pub add-late : {lo mid root last : ℕ} {l l′ : Label} {ks ks′ : Trees} {es : List Entry} → 0 < k .last → Stack (w .nodes) (s .nodes) (whole mid link last l′ ks′ ∷ whole lo root (k .last) l ks ∷ es)
       → Leaves (add k link s w) s (withNodes w (linked (w .nodes) (k .last) link)) (added k link) (whole lo root link l (join ks (tree l′ ks′)) ∷ es)
-  add-late {lo} {mid} {root} {last} {l} {l′} {ks} {ks′} {es} h st = record { is = add-is; stack = go (k .last) h st }
+  add-late {lo} {mid} {root} {last} {l} {l′} {ks} {ks′} {es} h st = record { is = add-is k link s w; stack = go (k .last) h st }
     where
       go : (n : ℕ) → 0 < n → Stack (w .nodes) (s .nodes) (whole mid link last l′ ks′ ∷ whole lo root n l ks ∷ es) → Stack (linked (w .nodes) n link) (s .nodes) (whole lo root link l (join ks (tree l′ ks′)) ∷ es)
       go zero h x = absurd (omega arith)
@@ -94,6 +60,5 @@ reflagged xs (suc i) flags = put xs (cell i FLAGS) flags
 -- a changed label
 pub reflag-stack : (link flags : ℕ) (s : State) (w : World) {lo last : ℕ} {l : Label} {ks : Trees} {es : List Entry} → Stack (w .nodes) (s .nodes) (whole lo link last l ks ∷ es)
     → Leaves (reflag link flags s w) s (withNodes w (reflagged (w .nodes) link flags)) tt (whole lo link last (flagged l flags) ks ∷ es)
-unfolding reflag
 reflag-stack zero flags s w st = absurd (omega (arith, link-some st))
-reflag-stack (suc i) flags s w st = record { is = refl; stack = change-flags flags st }
+reflag-stack (suc i) flags s w st = record { is = reflag-on _ flags s w refl refl; stack = change-flags flags st }

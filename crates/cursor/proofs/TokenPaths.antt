@@ -1,5 +1,5 @@
 -- Each way through the rules on tokens.
-use mathlib.Core.Path.{_≡_, refl, sym, ap, _∙_}
+use mathlib.Core.Path.{_≡_, refl, sym, _∙_}
 use mathlib.Core.List.{List}
 use mathlib.Core.Bool.{Bool, true, false}
 use Prim.Native.Nat.{ℕ, zero, suc, _+_, _-_, _*_, _/_, _<_, _≤_}
@@ -10,13 +10,14 @@ use lib.Dec.{ltb, eqb}
 use native.Mathlib.Nat.{min-eq-left, min-eq-right, le-of-lt}
 use borrow.Author.Tests.{eq-eqb, ne-eqb, lt-ltb, le-ltb, eqb-true, eqb-false, ltb-false}
 use Rattle.kinds.specs.Number as kind
+use Rattle.kinds.specs.Kinds.{isTrivia}
 use Rattle.cursor.specs.declared.State.{State}
 use Rattle.cursor.specs.declared.Ranged.the-variants as ranged
 use Rattle.cursor.specs.Sheet.{Sheet, count, kindAt, rangeAt}
 use Rattle.cursor.specs.Rule.{World, Stop, done, failed, refused, more, stop, iterate}
-use Rattle.cursor.specs.Tokens.{trivia, pastFrom, pastTrivia, startOf, endOf, eatTrivia, bump, eolTurn, eatEol, rewind}
+use Rattle.cursor.specs.Tokens.{pastFrom, pastTrivia, eatTrivia, bump, eolTurn, eatEol, rewind}
 use Rattle.cursor.proofs.Ends.{Ends, well, cut, Any, branch, then}
-use Rattle.cursor.proofs.Loops.{left, Goes, on, off, Takes}
+use Rattle.cursor.proofs.Loops.{left, on, off, Takes}
 
 pub kind-in : (ts : List ℕ) (i : ℕ) → i < length ts / 3 → kindAt ts i ≡ getD ts (i * 3) 0
 unfolding kindAt count
@@ -43,23 +44,25 @@ there ts i p = by (decLt i (length ts / 3))
     by (no q) = absurd (p (kind-out ts i (omega arith)))
 
 module _ (ts : List ℕ) where
-  past-from-off : (k i : ℕ) → kind.Ident ≤ kindAt ts i → pastFrom ts k i ≡ i
+  past-from-off : (k i : ℕ) → isTrivia (kindAt ts i) ≡ false → pastFrom ts k i ≡ i
   unfolding pastFrom
   past-from-off zero i p = refl
-  past-from-off (suc k) i p = rw (le-ltb _ _ p, pastFrom)
+  past-from-off (suc k) i p = rw (p, pastFrom)
 
-  past-from-on : (k i : ℕ) → kindAt ts i < kind.Ident → pastFrom ts (suc k) i ≡ pastFrom ts k (i + 1)
+  past-from-on : (k i : ℕ) → isTrivia (kindAt ts i) ≡ true → pastFrom ts (suc k) i ≡ pastFrom ts k (i + 1)
   unfolding pastFrom
-  past-from-on k i p = rw (lt-ltb _ _ p, pastFrom)
+  past-from-on k i p = rw (p, pastFrom)
 
-  pub past-off : (i : ℕ) → kind.Ident ≤ kindAt ts i → pastTrivia ts i ≡ i
+  pub past-off : (i : ℕ) → isTrivia (kindAt ts i) ≡ false → pastTrivia ts i ≡ i
   unfolding pastTrivia
   past-off i p = past-from-off _ i p
 
-  pub trivia-there : (i : ℕ) → kindAt ts i < kind.Ident → i < length ts / 3
-  trivia-there i p = there ts i (λ q. let r : kind.Eof < kind.Ident = rw q at p in omega arith)
+  -- Eof is no trivia
+  pub trivia-there : (i : ℕ) → isTrivia (kindAt ts i) ≡ true → i < length ts / 3
+  unfolding isTrivia
+  trivia-there i p = there ts i (λ q. let r : _≡_ {A = Bool} false true = rw q at p in let z : _≡_ {A = ℕ} 0 1 = cc in omega arith)
 
-  pub past-on : (i : ℕ) → kindAt ts i < kind.Ident → pastTrivia ts i ≡ pastTrivia ts (i + 1)
+  pub past-on : (i : ℕ) → isTrivia (kindAt ts i) ≡ true → pastTrivia ts i ≡ pastTrivia ts (i + 1)
   unfolding pastTrivia count
   past-on i p =
       let h = trivia-there i p in
@@ -103,7 +106,7 @@ module _ (e : Sheet) (s : State) (w : World) where
 past-from-ge : (ts : List ℕ) (k i : ℕ) → i ≤ pastFrom ts k i
 unfolding pastFrom
 past-from-ge ts zero i = omega arith
-past-from-ge ts (suc k) i = by (ltb (kindAt ts i) kind.Ident) (past-from-ge ts k (i + 1))
+past-from-ge ts (suc k) i = by (isTrivia (kindAt ts i)) (past-from-ge ts k (i + 1))
   where
     by : (b : Bool) → i + 1 ≤ pastFrom ts k (i + 1) → i ≤ elim b as (λ _. ℕ) [ true ↦ pastFrom ts k (i + 1) | false ↦ i ]
     by true h = omega arith

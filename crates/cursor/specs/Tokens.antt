@@ -4,6 +4,7 @@ use mathlib.Core.List.{List}
 use mathlib.Core.Bool.{Bool, true, false, not}
 use lib.Dec.{ltb, eqb}
 use Rattle.kinds.specs.Number as kind
+use Rattle.kinds.specs.Kinds.{isTrivia}
 use Rattle.cursor.specs.declared.State.{State}
 use Rattle.cursor.specs.declared.Span.{Span}
 use Rattle.cursor.specs.declared.Ranged.{Ranged}
@@ -11,14 +12,10 @@ use Rattle.cursor.specs.declared.Ranged.the-variants as ranged
 use Rattle.cursor.specs.Sheet.{Sheet, count, kindAt, rangeAt}
 use Rattle.cursor.specs.Rule.{World, Stop, refused, Out, done, failed, Rule, _>>=_, _>>_, give, ifSo, Next, more, stop, Turn, iterate}
 
--- trivia are the kinds 0 to 3
-abbrev pub trivia : ℕ → Bool
-trivia k = ltb k kind.Ident
-
 -- the first place from i on whose token is no trivia, among at most so many
 unfoldable pub pastFrom : List ℕ → ℕ → ℕ → ℕ
 pastFrom tokens zero i = i
-pastFrom tokens (suc k) i = elim (trivia (kindAt tokens i)) as (λ _. ℕ) [ true ↦ pastFrom tokens k (i + 1) | false ↦ i ]
+pastFrom tokens (suc k) i = elim (isTrivia (kindAt tokens i)) as (λ _. ℕ) [ true ↦ pastFrom tokens k (i + 1) | false ↦ i ]
 
 -- the first place from i on whose token is no trivia
 unfoldable pub pastTrivia : List ℕ → ℕ → ℕ

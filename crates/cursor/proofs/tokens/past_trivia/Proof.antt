@@ -1,15 +1,15 @@
-use borrow.Author.Needs.{needs}
 use Rattle.cursor.proofs.TokenPaths as paths
 use Rattle.cursor.specs.Tokens.{pastTrivia}
+use Rattle.kinds.specs.Kinds.{isTrivia}
+use Rattle.kinds.proofs.Theorems.{trivia-first}
+use borrow.Author.Tests.{lt-ltb, le-ltb}
 use native.Mathlib.Omega.{arith}
-use mathlib.Core.Path.{_≡_, refl, sym, _∙_, subst}
+use mathlib.Core.Path.{_≡_, refl, sym, ap, _∙_}
 use lib.ListN.{length}
 use Prim.Native.Nat.{_-_, _/_, _<_, _≤_}
 use Rattle.cursor.proofs.tokens.past_trivia.Statement.{statement}
 use Rattle.cursor.proofs.tokens.past_trivia.Tie as tie
-use Rattle.cursor.proofs.tokens.past_trivia.Reads as reads
-use Rattle.cursor.proofs.tokens.past_trivia.Lts as lts
-use Rattle.cursor.proofs.tokens.kind_at.Reads as kind-at-reads
+use borrow.Author.Needs.{needs}
 
 abbrev Inv-loop : tie.InvT-loop
 Inv-loop tokens from at₀ at = pastTrivia tokens from ≡ pastTrivia tokens at
@@ -17,33 +17,20 @@ Inv-loop tokens from at₀ at = pastTrivia tokens from ≡ pastTrivia tokens at
 abbrev μ-loop : tie.MeasureT-loop
 μ-loop tokens from at₀ at = length tokens / 3 - at
 
--- src/tokens.rt:54:5
 loop-holds : tie.Need-loop-holds Inv-loop μ-loop
 loop-holds c = refl
 
--- src/tokens.rt:54:11
-kind-at-requires : tie.Need-kind-at-requires Inv-loop μ-loop
-kind-at-requires c κs = tt
-
--- src/tokens.rt:54:33
-cast-if1 : tie.Need-cast-if1 Inv-loop μ-loop
-cast-if1 c = search needs
-
--- src/tokens.rt:55:9
 add-at : tie.Need-add-at Inv-loop μ-loop
-add-at c = omega (arith, (paths.trivia-there _ _ (subst (λ k. k < 4) (c .before .kind-at .ensures) (c .if1 .taken))))
+add-at c = omega (arith, (paths.trivia-there _ _ ((ap isTrivia (sym (c .before .kind-at .ensures)) ∙ trivia-first _) ∙ lt-ltb _ _ (c .if1 .taken))))
 
--- src/tokens.rt:54:5
 loop-less : tie.Need-loop-less Inv-loop μ-loop
-loop-less c = omega (arith, (paths.trivia-there _ _ (subst (λ k. k < 4) (c .before .kind-at .ensures) (c .if1 .taken))))
+loop-less c = omega (arith, (paths.trivia-there _ _ ((ap isTrivia (sym (c .before .kind-at .ensures)) ∙ trivia-first _) ∙ lt-ltb _ _ (c .if1 .taken))))
 
--- src/tokens.rt:54:5
 loop-again : tie.Need-loop-again Inv-loop μ-loop
-loop-again c = c .before .before .loop .inv ∙ paths.past-on _ _ (subst (λ k. k < 4) (c .before .kind-at .ensures) (c .if1 .taken))
+loop-again c = c .before .before .loop .inv ∙ paths.past-on _ _ ((ap isTrivia (sym (c .before .kind-at .ensures)) ∙ trivia-first _) ∙ lt-ltb _ _ (c .if1 .taken))
 
--- src/tokens.rt:50:1
 returns : tie.Need-returns Inv-loop μ-loop
-returns c = sym (c .before .before .loop .inv ∙ paths.past-off _ _ (subst (λ k. 4 ≤ k) (c .before .kind-at .ensures) (c .if1 .left)))
+returns c = sym (c .before .before .loop .inv ∙ paths.past-off _ _ ((ap isTrivia (sym (c .before .kind-at .ensures)) ∙ trivia-first _) ∙ le-ltb _ _ (c .if1 .left)))
 
 pub past-trivia-spec : {M : Type 1} → statement M
 past-trivia-spec =
@@ -52,8 +39,8 @@ past-trivia-spec =
     Inv-loop
     μ-loop
     loop-holds
-    kind-at-requires
-    cast-if1
+    (λ c κs. tt)
+    (λ c. search needs)
     add-at
     loop-less
     loop-again

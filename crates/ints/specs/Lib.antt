@@ -1,0 +1,4 @@
+pub mod Spelling
+pub mod Answer
+pub mod Meaning
+pub mod Reading
