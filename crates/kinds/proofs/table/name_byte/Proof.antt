@@ -15,7 +15,7 @@ array-read-result c = search needs
 
 returns : tie.Need-returns
 unfolding nameBytes
-returns c = entry 120 (lts.m3 reads.Pre reads.Post (c .before) .1 .1 .1 .1 .0) (λ k. getD nameBytes k 32) tt (c .before .args .place) (c .if1 .taken)
+returns c = entry 120 (lts.m3 reads.Pre reads.Post (c .before) .1 .1 .1 .1 .0) (λ k. getD nameBytes k 32) tt (c .before .args .place) (search needs)
 
 returns-2 : tie.Need-returns-2
 unfolding nameBytes

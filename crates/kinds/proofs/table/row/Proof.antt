@@ -41,7 +41,7 @@ array-read-result c = search needs
 
 returns : tie.Need-returns
 unfolding isTrivia levelOf binaryOf namePlace listingName
-returns c = rules (lts.m3 reads.Pre reads.Post (c .before) .1 .1 .1 .1 .0) tt (c .before .args .kind) (c .if1 .taken)
+returns c = rules (lts.m3 reads.Pre reads.Post (c .before) .1 .1 .1 .1 .0) tt (c .before .args .kind) (search needs)
 
 returns-2 : tie.Need-returns-2
 unfolding isTrivia levelOf binaryOf namePlace listingName

@@ -18,7 +18,7 @@ array-read-result c = search needs
 
 returns : tie.Need-returns
 unfolding typeNamePlace
-returns c = entry 10 (lts.m3 reads.Pre reads.Post (c .before) .1 .1 .1 .1 .0) typeNamePlace tt (c .before .args .number) (c .if1 .taken)
+returns c = entry 10 (lts.m3 reads.Pre reads.Post (c .before) .1 .1 .1 .1 .0) typeNamePlace tt (c .before .args .number) (search needs)
 
 returns-2 : tie.Need-returns-2
 unfolding typeNamePlace

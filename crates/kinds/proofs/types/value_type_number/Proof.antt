@@ -1,0 +1,41 @@
+-- `kinds::types::value_type_number` meets its contract, at each type by itself.
+-- Assumes nothing.
+use mathlib.Core.Path.{sym, ap}
+use borrow.Author.Needs.{needs}
+use Rattle.kinds.specs.TypeWords.{typeNumber}
+use Rattle.kinds.proofs.types.value_type_number.Statement.{statement}
+use Rattle.kinds.proofs.types.value_type_number.Tie as tie
+
+pub value-type-number-spec : {M : Type 1} → statement M
+value-type-number-spec =
+    tie.close (tie.spec
+    (λ c. c .match .keys1)
+    (λ c. c .match .keys2)
+    (λ c. c .match .keys3)
+    (λ c. c .match .keys4)
+    (λ c. c .match .keys5)
+    (λ c. c .match .keys6)
+    (λ c. c .match .keys7)
+    (λ c. c .match .keys8)
+    (λ c. c .match .keys9)
+    (λ c. c .match .keys10)
+    -- returns
+    (λ c. sym (ap typeNumber (c .enum-told .given .1)))
+    -- returns-2
+    (λ c. sym (ap typeNumber (c .enum-told2 .given .1)))
+    -- returns-3
+    (λ c. sym (ap typeNumber (c .enum-told3 .given .1)))
+    -- returns-4
+    (λ c. sym (ap typeNumber (c .enum-told4 .given .1)))
+    -- returns-5
+    (λ c. sym (ap typeNumber (c .enum-told5 .given .1)))
+    -- returns-6
+    (λ c. sym (ap typeNumber (c .enum-told6 .given .1)))
+    -- returns-7
+    (λ c. sym (ap typeNumber (c .enum-told7 .given .1)))
+    -- returns-8
+    (λ c. sym (ap typeNumber (c .enum-told8 .given .1)))
+    -- returns-9
+    (λ c. sym (ap typeNumber (c .enum-told9 .given .1)))
+    -- returns-10
+    (λ c. sym (ap typeNumber (c .enum-told10 .given .1))))
