@@ -1,3 +1,4 @@
+-- `ints::next_byte` meets its contract: what is left to read at `at` is what was left at `from`.
 use Prim.Native.Nat.{_-_}
 use mathlib.Core.Path.{_≡_, refl, sym, _∙_}
 use borrow.Author.Needs.{needs}
@@ -6,10 +7,6 @@ use Rattle.ints.specs.Spelling.{kept}
 use Rattle.ints.proofs.Paths as paths
 use Rattle.ints.proofs.next_byte.Statement.{statement}
 use Rattle.ints.proofs.next_byte.Tie as tie
-use Rattle.ints.proofs.next_byte.Reads as reads
-use Rattle.ints.proofs.next_byte.Lts as lts
-
--- `ints::next_byte` meets its contract: what is left to read at `at` is what was left at `from`.
 
 abbrev Inv-loop : tie.InvT-loop
 Inv-loop s from at₀ at = kept (drop at s) ≡ kept (drop at₀ s)
@@ -17,31 +14,15 @@ Inv-loop s from at₀ at = kept (drop at s) ≡ kept (drop at₀ s)
 abbrev μ-loop : tie.MeasureT-loop
 μ-loop s from at₀ at = length s - at
 
--- src/lib.rt:41:5
 loop-holds : tie.Need-loop-holds Inv-loop μ-loop
 loop-holds c = refl
 
--- src/lib.rt:42:17
-shared-slice-read-b : tie.Need-shared-slice-read-b Inv-loop μ-loop
-shared-slice-read-b c = search needs
-
--- src/lib.rt:43:9
-add-at : tie.Need-add-at Inv-loop μ-loop
-add-at c = search needs
-
--- src/lib.rt:45:13
 returns : tie.Need-returns Inv-loop μ-loop
 returns c = sym (paths.kept-takes _ _ (c .before .before .loop-test .taken) (c .if1 .taken)) ∙ c .before .before .before .loop .inv
 
--- src/lib.rt:41:5
-loop-less : tie.Need-loop-less Inv-loop μ-loop
-loop-less c = search needs
-
--- src/lib.rt:41:5
 loop-again : tie.Need-loop-again Inv-loop μ-loop
 loop-again c = sym (paths.kept-skips _ _ (c .before .before .loop-test .taken) (c .if1 .left)) ∙ c .before .before .before .loop .inv
 
--- src/lib.rt:37:1
 returns-2 : tie.Need-returns-2 Inv-loop μ-loop
 returns-2 c = sym (paths.kept-ends _ _ (c .loop-test .left)) ∙ c .before .loop .inv
 
@@ -52,9 +33,9 @@ next-byte-spec =
     Inv-loop
     μ-loop
     loop-holds
-    shared-slice-read-b
-    add-at
+    (λ c. search needs)
+    (λ c. search needs)
     returns
-    loop-less
+    (λ c. search needs)
     loop-again
     returns-2)

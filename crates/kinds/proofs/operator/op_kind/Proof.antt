@@ -6,6 +6,48 @@ use Rattle.kinds.specs.Operators.{opKind}
 use Rattle.kinds.proofs.operator.op_kind.Statement.{statement}
 use Rattle.kinds.proofs.operator.op_kind.Tie as tie
 
+returns : tie.Need-returns
+returns c = sym (ap opKind (c .enum-told .given .1))
+
+returns-2 : tie.Need-returns-2
+returns-2 c = sym (ap opKind (c .enum-told2 .given .1))
+
+returns-3 : tie.Need-returns-3
+returns-3 c = sym (ap opKind (c .enum-told3 .given .1))
+
+returns-4 : tie.Need-returns-4
+returns-4 c = sym (ap opKind (c .enum-told4 .given .1))
+
+returns-5 : tie.Need-returns-5
+returns-5 c = sym (ap opKind (c .enum-told5 .given .1))
+
+returns-6 : tie.Need-returns-6
+returns-6 c = sym (ap opKind (c .enum-told6 .given .1))
+
+returns-7 : tie.Need-returns-7
+returns-7 c = sym (ap opKind (c .enum-told7 .given .1))
+
+returns-8 : tie.Need-returns-8
+returns-8 c = sym (ap opKind (c .enum-told8 .given .1))
+
+returns-9 : tie.Need-returns-9
+returns-9 c = sym (ap opKind (c .enum-told9 .given .1))
+
+returns-10 : tie.Need-returns-10
+returns-10 c = sym (ap opKind (c .enum-told10 .given .1))
+
+returns-11 : tie.Need-returns-11
+returns-11 c = sym (ap opKind (c .enum-told11 .given .1))
+
+returns-12 : tie.Need-returns-12
+returns-12 c = sym (ap opKind (c .enum-told12 .given .1))
+
+returns-13 : tie.Need-returns-13
+returns-13 c = sym (ap opKind (c .enum-told13 .given .1))
+
+returns-14 : tie.Need-returns-14
+returns-14 c = sym (ap opKind (c .enum-told14 .given .1))
+
 pub op-kind-spec : {M : Type 1} → statement M
 op-kind-spec =
     tie.close (tie.spec
@@ -23,31 +65,17 @@ op-kind-spec =
     (λ c. c .match .keys12)
     (λ c. c .match .keys13)
     (λ c. c .match .keys14)
-    -- returns
-    (λ c. sym (ap opKind (c .enum-told .given .1)))
-    -- returns-2
-    (λ c. sym (ap opKind (c .enum-told2 .given .1)))
-    -- returns-3
-    (λ c. sym (ap opKind (c .enum-told3 .given .1)))
-    -- returns-4
-    (λ c. sym (ap opKind (c .enum-told4 .given .1)))
-    -- returns-5
-    (λ c. sym (ap opKind (c .enum-told5 .given .1)))
-    -- returns-6
-    (λ c. sym (ap opKind (c .enum-told6 .given .1)))
-    -- returns-7
-    (λ c. sym (ap opKind (c .enum-told7 .given .1)))
-    -- returns-8
-    (λ c. sym (ap opKind (c .enum-told8 .given .1)))
-    -- returns-9
-    (λ c. sym (ap opKind (c .enum-told9 .given .1)))
-    -- returns-10
-    (λ c. sym (ap opKind (c .enum-told10 .given .1)))
-    -- returns-11
-    (λ c. sym (ap opKind (c .enum-told11 .given .1)))
-    -- returns-12
-    (λ c. sym (ap opKind (c .enum-told12 .given .1)))
-    -- returns-13
-    (λ c. sym (ap opKind (c .enum-told13 .given .1)))
-    -- returns-14
-    (λ c. sym (ap opKind (c .enum-told14 .given .1))))
+    returns
+    returns-2
+    returns-3
+    returns-4
+    returns-5
+    returns-6
+    returns-7
+    returns-8
+    returns-9
+    returns-10
+    returns-11
+    returns-12
+    returns-13
+    returns-14)

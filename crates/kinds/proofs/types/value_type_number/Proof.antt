@@ -6,6 +6,36 @@ use Rattle.kinds.specs.TypeWords.{typeNumber}
 use Rattle.kinds.proofs.types.value_type_number.Statement.{statement}
 use Rattle.kinds.proofs.types.value_type_number.Tie as tie
 
+returns : tie.Need-returns
+returns c = sym (ap typeNumber (c .enum-told .given .1))
+
+returns-2 : tie.Need-returns-2
+returns-2 c = sym (ap typeNumber (c .enum-told2 .given .1))
+
+returns-3 : tie.Need-returns-3
+returns-3 c = sym (ap typeNumber (c .enum-told3 .given .1))
+
+returns-4 : tie.Need-returns-4
+returns-4 c = sym (ap typeNumber (c .enum-told4 .given .1))
+
+returns-5 : tie.Need-returns-5
+returns-5 c = sym (ap typeNumber (c .enum-told5 .given .1))
+
+returns-6 : tie.Need-returns-6
+returns-6 c = sym (ap typeNumber (c .enum-told6 .given .1))
+
+returns-7 : tie.Need-returns-7
+returns-7 c = sym (ap typeNumber (c .enum-told7 .given .1))
+
+returns-8 : tie.Need-returns-8
+returns-8 c = sym (ap typeNumber (c .enum-told8 .given .1))
+
+returns-9 : tie.Need-returns-9
+returns-9 c = sym (ap typeNumber (c .enum-told9 .given .1))
+
+returns-10 : tie.Need-returns-10
+returns-10 c = sym (ap typeNumber (c .enum-told10 .given .1))
+
 pub value-type-number-spec : {M : Type 1} → statement M
 value-type-number-spec =
     tie.close (tie.spec
@@ -19,23 +49,13 @@ value-type-number-spec =
     (λ c. c .match .keys8)
     (λ c. c .match .keys9)
     (λ c. c .match .keys10)
-    -- returns
-    (λ c. sym (ap typeNumber (c .enum-told .given .1)))
-    -- returns-2
-    (λ c. sym (ap typeNumber (c .enum-told2 .given .1)))
-    -- returns-3
-    (λ c. sym (ap typeNumber (c .enum-told3 .given .1)))
-    -- returns-4
-    (λ c. sym (ap typeNumber (c .enum-told4 .given .1)))
-    -- returns-5
-    (λ c. sym (ap typeNumber (c .enum-told5 .given .1)))
-    -- returns-6
-    (λ c. sym (ap typeNumber (c .enum-told6 .given .1)))
-    -- returns-7
-    (λ c. sym (ap typeNumber (c .enum-told7 .given .1)))
-    -- returns-8
-    (λ c. sym (ap typeNumber (c .enum-told8 .given .1)))
-    -- returns-9
-    (λ c. sym (ap typeNumber (c .enum-told9 .given .1)))
-    -- returns-10
-    (λ c. sym (ap typeNumber (c .enum-told10 .given .1))))
+    returns
+    returns-2
+    returns-3
+    returns-4
+    returns-5
+    returns-6
+    returns-7
+    returns-8
+    returns-9
+    returns-10)
