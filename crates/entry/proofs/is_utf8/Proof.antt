@@ -1,4 +1,4 @@
-use borrow.Author.Needs.{needs}
+-- `is_utf8` meets its contract. The invariant: what is left of the text is UTF-8 exactly if the whole is.
 use Rattle.entry.proofs.Walk as walk
 use Rattle.entry.specs.Utf8.{isUtf8}
 use native.Mathlib.Omega.{arith}
@@ -7,11 +7,6 @@ use Prim.Native.Nat.{_≤_, _-_, zero-le}
 use mathlib.Core.Path.{_≡_, refl, sym, _∙_}
 use Rattle.entry.proofs.is_utf8.Statement.{statement}
 use Rattle.entry.proofs.is_utf8.Tie as tie
-use Rattle.entry.proofs.is_utf8.Reads as reads
-use Rattle.entry.proofs.is_utf8.Lts as lts
-use Rattle.entry.proofs.char_length.Reads as char-length-reads
-
--- `is_utf8` meets its contract. The invariant: what is left of the text is UTF-8 exactly if the whole is.
 
 abbrev Inv-loop : tie.InvT-loop
 Inv-loop text at₀ at = (isUtf8 text ≡ isUtf8 (drop at text)) × (at ≤ length text)
@@ -19,31 +14,21 @@ Inv-loop text at₀ at = (isUtf8 text ≡ isUtf8 (drop at text)) × (at ≤ leng
 abbrev μ-loop : tie.MeasureT-loop
 μ-loop text at₀ at = length text - at
 
--- src/lib.rt:141:5
 loop-holds : tie.Need-loop-holds Inv-loop μ-loop
 loop-holds c = (refl, zero-le)
 
--- src/lib.rt:142:13
-char-length-requires : tie.Need-char-length-requires Inv-loop μ-loop
-char-length-requires c κs = tt
-
--- src/lib.rt:144:13
 returns : tie.Need-returns Inv-loop μ-loop
-returns c = sym (c .before .before .before .loop .inv .0 ∙ walk.utf8-bad (c .before .before .before .before .before .args .text .now) (c .before .before .before .loop .at) (c .before .before .loop-test .taken) (sym (c .before .char-length .ensures) ∙ c .if1 .taken))
+returns c = let c₁ = c .before in let c₂ = c₁ .before in let c₃ = c₂ .before in let c₄ = c₃ .before .before in sym (c₃ .loop .inv .0 ∙ walk.utf8-bad (c₄ .args .text .now) (c₃ .loop .at) (c₂ .loop-test .taken) (sym (c₁ .char-length .ensures) ∙ c .if1 .taken))
 
--- src/lib.rt:146:9
 add-at : tie.Need-add-at Inv-loop μ-loop
 add-at c = omega (arith, walk.char-room (c .before .before .before .before .before .args .text .now) (c .before .before .before .loop .at) (c .before .char-length .result) (c .before .before .before .loop .inv .1) (c .before .char-length .ensures))
 
--- src/lib.rt:141:5
 loop-less : tie.Need-loop-less Inv-loop μ-loop
 loop-less c = omega (arith, (walk.char-room (c .before .before .before .before .before .args .text .now) (c .before .before .before .loop .at) (c .before .char-length .result) (c .before .before .before .loop .inv .1) (c .before .char-length .ensures)))
 
--- src/lib.rt:141:5
 loop-again : tie.Need-loop-again Inv-loop μ-loop
-loop-again c = (c .before .before .before .loop .inv .0 ∙ walk.utf8-step (c .before .before .before .before .before .args .text .now) (c .before .before .before .loop .at) _ (c .before .before .loop-test .taken) (c .if1 .left) (c .before .char-length .ensures), (walk.char-room (c .before .before .before .before .before .args .text .now) (c .before .before .before .loop .at) (c .before .char-length .result) (c .before .before .before .loop .inv .1) (c .before .char-length .ensures)))
+loop-again c = let c₁ = c .before in let c₂ = c₁ .before in let c₃ = c₂ .before in let c₄ = c₃ .before .before in (c₃ .loop .inv .0 ∙ walk.utf8-step (c₄ .args .text .now) (c₃ .loop .at) _ (c₂ .loop-test .taken) (c .if1 .left) (c₁ .char-length .ensures), (walk.char-room (c₄ .args .text .now) (c₃ .loop .at) (c₁ .char-length .result) (c₃ .loop .inv .1) (c₁ .char-length .ensures)))
 
--- src/lib.rt:137:1
 returns-2 : tie.Need-returns-2 Inv-loop μ-loop
 returns-2 c = sym (c .before .loop .inv .0 ∙ walk.utf8-end (c .before .before .before .args .text .now) (c .before .loop .at) (c .loop-test .left))
 
@@ -54,7 +39,7 @@ is-utf8-spec =
     Inv-loop
     μ-loop
     loop-holds
-    char-length-requires
+    (λ c κs. tt)
     returns
     add-at
     loop-less

@@ -1,145 +1,63 @@
+-- `row_length` meets its contract: each arm is a row of the syntax, and the last one the first bytes of none.
 use Rattle.entry.proofs.Fits as fit
 use native.Mathlib.Omega.{arith}
 use lib.Dec.{lit<}
 use mathlib.Core.Path.{refl, sym}
-use borrow.Author.Needs.{needs}
 use Rattle.entry.proofs.row_length.Statement.{statement}
 use Rattle.entry.proofs.row_length.Tie as tie
-use Rattle.entry.proofs.row_length.Reads as reads
-use Rattle.entry.proofs.row_length.Lts as lts
-use Rattle.entry.proofs.follow.Reads as follow-reads
-use Rattle.entry.proofs.whole.Reads as whole-reads
 
--- `row_length` meets its contract: each arm is a row of the syntax, and the last one the first bytes of none.
-
--- src/lib.rt:112:33
-follow-requires : tie.Need-follow-requires
-follow-requires c κs = tt
-
--- src/lib.rt:112:24
-whole-requires : tie.Need-whole-requires
-whole-requires c κs = tt
-
--- src/lib.rt:114:33
-follow-requires-2 : tie.Need-follow-requires-2
-follow-requires-2 c κs = tt
-
--- src/lib.rt:114:24
-whole-requires-2 : tie.Need-whole-requires-2
-whole-requires-2 c κs = tt
-
--- src/lib.rt:116:33
-follow-requires-3 : tie.Need-follow-requires-3
-follow-requires-3 c κs = tt
-
--- src/lib.rt:116:24
-whole-requires-3 : tie.Need-whole-requires-3
-whole-requires-3 c κs = tt
-
--- src/lib.rt:118:33
-follow-requires-4 : tie.Need-follow-requires-4
-follow-requires-4 c κs = tt
-
--- src/lib.rt:118:24
-whole-requires-4 : tie.Need-whole-requires-4
-whole-requires-4 c κs = tt
-
--- src/lib.rt:111:33
-follow-requires-5 : tie.Need-follow-requires-5
-follow-requires-5 c κs = tt
-
--- src/lib.rt:111:24
-whole-requires-5 : tie.Need-whole-requires-5
-whole-requires-5 c κs = tt
-
--- src/lib.rt:113:33
-follow-requires-6 : tie.Need-follow-requires-6
-follow-requires-6 c κs = tt
-
--- src/lib.rt:113:24
-whole-requires-6 : tie.Need-whole-requires-6
-whole-requires-6 c κs = tt
-
--- src/lib.rt:115:33
-follow-requires-7 : tie.Need-follow-requires-7
-follow-requires-7 c κs = tt
-
--- src/lib.rt:115:24
-whole-requires-7 : tie.Need-whole-requires-7
-whole-requires-7 c κs = tt
-
--- src/lib.rt:117:33
-follow-requires-8 : tie.Need-follow-requires-8
-follow-requires-8 c κs = tt
-
--- src/lib.rt:117:24
-whole-requires-8 : tie.Need-whole-requires-8
-whole-requires-8 c κs = tt
-
--- src/lib.rt:106:1
 returns : tie.Need-returns
 returns c = fit.by-row 3 (c .whole .ensures) (c .before .follow .ensures) (fit.char-row _ _ 2 refl (lit< tt) (omega arith) (omega arith))
 
--- src/lib.rt:106:1
 returns-2 : tie.Need-returns-2
 returns-2 c = fit.by-row 3 (c .whole2 .ensures) (c .before .follow2 .ensures) (fit.char-row _ _ 4 refl (lit< tt) (omega arith) (omega arith))
 
--- src/lib.rt:106:1
 returns-3 : tie.Need-returns-3
 returns-3 c = fit.by-row 4 (c .whole3 .ensures) (c .before .follow3 .ensures) (fit.char-row _ _ 6 refl (lit< tt) (omega arith) (omega arith))
 
--- src/lib.rt:106:1
 returns-4 : tie.Need-returns-4
 returns-4 c = fit.by-row 4 (c .whole4 .ensures) (c .before .follow4 .ensures) (fit.char-row _ _ 8 refl (lit< tt) (omega arith) (omega arith))
 
--- src/lib.rt:106:1
 returns-5 : tie.Need-returns-5
 returns-5 c = sym (fit.char-ascii _ _ (omega arith))
 
--- src/lib.rt:106:1
 returns-6 : tie.Need-returns-6
 returns-6 c = fit.by-row 2 (c .whole5 .ensures) (c .before .follow5 .ensures) (fit.char-row _ _ 1 refl (lit< tt) (omega arith) (omega arith))
 
--- src/lib.rt:106:1
 returns-7 : tie.Need-returns-7
 returns-7 c = fit.by-row 3 (c .whole6 .ensures) (c .before .follow6 .ensures) (fit.char-row _ _ 3 refl (lit< tt) (omega arith) (omega arith))
 
--- src/lib.rt:106:1
 returns-8 : tie.Need-returns-8
 returns-8 c = fit.by-row 3 (c .whole7 .ensures) (c .before .follow7 .ensures) (fit.char-row _ _ 5 refl (lit< tt) (omega arith) (omega arith))
 
--- src/lib.rt:106:1
 returns-9 : tie.Need-returns-9
 returns-9 c = fit.by-row 4 (c .whole8 .ensures) (c .before .follow8 .ensures) (fit.char-row _ _ 7 refl (lit< tt) (omega arith) (omega arith))
 
--- src/lib.rt:106:1
 returns-10 : tie.Need-returns-10
 returns-10 c = sym (fit.char-none _ _ 0x80 0xC1 refl (omega arith) (omega arith))
 
--- src/lib.rt:106:1
 returns-11 : tie.Need-returns-11
 returns-11 c = sym (fit.char-none _ _ 0xF5 0xFF refl (omega arith) (omega arith))
 
 pub row-length-spec : {M : Type 1} → statement M
 row-length-spec =
-    tie.close
-    (tie.spec
-    follow-requires
-    whole-requires
-    follow-requires-2
-    whole-requires-2
-    follow-requires-3
-    whole-requires-3
-    follow-requires-4
-    whole-requires-4
-    follow-requires-5
-    whole-requires-5
-    follow-requires-6
-    whole-requires-6
-    follow-requires-7
-    whole-requires-7
-    follow-requires-8
-    whole-requires-8
+    tie.close (tie.spec
+    (λ c κs. tt)
+    (λ c κs. tt)
+    (λ c κs. tt)
+    (λ c κs. tt)
+    (λ c κs. tt)
+    (λ c κs. tt)
+    (λ c κs. tt)
+    (λ c κs. tt)
+    (λ c κs. tt)
+    (λ c κs. tt)
+    (λ c κs. tt)
+    (λ c κs. tt)
+    (λ c κs. tt)
+    (λ c κs. tt)
+    (λ c κs. tt)
+    (λ c κs. tt)
     returns
     returns-2
     returns-3

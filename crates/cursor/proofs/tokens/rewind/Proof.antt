@@ -1,18 +1,16 @@
-use borrow.Author.Needs.{needs}
 use Rattle.cursor.proofs.TokenPaths as paths
 use mathlib.Core.Path.{sym}
 use Rattle.cursor.proofs.tokens.rewind.Statement.{statement}
 use Rattle.cursor.proofs.tokens.rewind.Tie as tie
-use Rattle.cursor.proofs.tokens.rewind.Reads as reads
-use Rattle.cursor.proofs.tokens.rewind.Lts as lts
 
--- src/tokens.rt:131:1
 returns : tie.Need-returns
 returns c = sym (paths.rewind-cut _ _ (c .if1 .taken))
 
--- src/tokens.rt:131:1
 returns-2 : tie.Need-returns-2
 returns-2 c = sym (paths.rewind-left _ _ (c .if1 .left))
 
 pub rewind-spec : {M : Type 1} → statement M
-rewind-spec = tie.close (tie.spec returns returns-2)
+rewind-spec =
+    tie.close (tie.spec
+    returns
+    returns-2)
