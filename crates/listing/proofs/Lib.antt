@@ -1,0 +1,4 @@
+pub mod Pages
+pub mod Decimals
+pub mod Spelled
+pub mod Written

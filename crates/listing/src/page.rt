@@ -20,10 +20,11 @@ pub fn put_byte(out: &mut [u8], pen: Pen, b: u8) -> Pen
     if room <= at {
         return pen;
     }
+    let next = Pen { at: at + 1, room };
     if at < out.len() {
         out[at] = b;
     }
-    Pen { at: at + 1, room }
+    next
 }
 
 // A fixed byte string.
