@@ -2,3 +2,4 @@ pub mod Pages
 pub mod Decimals
 pub mod Spelled
 pub mod Written
+pub mod Decoding

@@ -18,7 +18,6 @@ use Rattle.kinds.specs.TypeWords.{typeNames, typeNamePlace}
 use Rattle.kinds.proofs.Every.{every, at, entry}
 use Rattle.kinds.proofs.Parts.{equal-same}
 use Rattle.kinds.proofs.Rest.{past}
-use mathlib.Core.Logic.{_⊎_, inl, inr}
 use Rattle.listing.specs.Names.{recordNames, recordName, unaryName, binaryName, typeName, detailName, otherBytes, letters, nameFrom}
 
 -- how many bytes the names take
@@ -160,15 +159,18 @@ module _ (k one place : ℕ) where
   unfolding detailName
   detail-unary h e = rw (h, e)
 
-  pub detail-binary : (k ≡ 15) ⊎ (k ≡ 30) → place ≡ namePlace one → nameFrom place ∷ [] ≡ detailName k one
+  pub detail-binary : k ≡ 15 → place ≡ namePlace one → nameFrom place ∷ [] ≡ detailName k one
   unfolding detailName
-  detail-binary (inl h) e = rw (h, e, binary-named one)
-  detail-binary (inr h) e = rw (h, e, binary-named one)
+  detail-binary h e = rw (h, e, binary-named one)
+
+  pub detail-assign : k ≡ 30 → place ≡ namePlace one → nameFrom place ∷ [] ≡ detailName k one
+  unfolding detailName
+  detail-assign h e = rw (h, e, binary-named one)
 
   pub detail-type : k ≡ 16 → place ≡ typeNamePlace one → nameFrom place ∷ [] ≡ detailName k one
   unfolding detailName
   detail-type h e = rw (h, e, type-named one)
 
-pub detail-none : (k one : ℕ) → (k ≡ 14 → ⊥) → ((k ≡ 15) ⊎ (k ≡ 30) → ⊥) → (k ≡ 16 → ⊥) → [] ≡ detailName k one
+pub detail-none : (k one : ℕ) → (k ≡ 14 → ⊥) → (k ≡ 15 → ⊥) → (k ≡ 30 → ⊥) → (k ≡ 16 → ⊥) → [] ≡ detailName k one
 unfolding detailName
-detail-none k one p q s = sym (rw (ne-eqb k 14 p, ne-eqb k 15 (λ e. q (inl e)), ne-eqb k 30 (λ e. q (inr e)), ne-eqb k 16 s))
+detail-none k one p q r s = sym (rw (ne-eqb k 14 p, ne-eqb k 15 q, ne-eqb k 30 r, ne-eqb k 16 s))

@@ -139,10 +139,17 @@ fn unary_place(op: u32) -> usize
 pub fn detail_place(kind: u32, one: u32) -> Word
     ensures { λ r. ⌜ wordOf r ≡ detailName kind one ⌝ }
 {
-    match kind {
-        UNARY => Word::At(unary_place(one)),
-        BINARY | ASSIGN_OP => Word::At(name_place(one)),
-        TYPE_CHECK => Word::At(value_type_name_place(one)),
-        _ => Word::Nothing,
+    if kind == UNARY {
+        return Word::At(unary_place(one));
     }
+    if kind == BINARY {
+        return Word::At(name_place(one));
+    }
+    if kind == ASSIGN_OP {
+        return Word::At(name_place(one));
+    }
+    if kind == TYPE_CHECK {
+        return Word::At(value_type_name_place(one));
+    }
+    Word::Nothing
 }
