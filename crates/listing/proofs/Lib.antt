@@ -2,4 +2,6 @@ pub mod Pages
 pub mod Decimals
 pub mod Spelled
 pub mod Written
+pub mod LineWays
+pub mod Walks
 pub mod Decoding

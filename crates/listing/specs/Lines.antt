@@ -31,12 +31,19 @@ nodeLine level l = line (decimal level) (recordName (l .kind) ∷ decimal (l .st
 unfoldable pub found : ℕ → ℕ → List (List ℕ)
 found class what = choose (eqb class 1) (bytes "int" ∷ decimal what ∷ []) (decimal what ∷ [])
 
--- `error`, what was found, start, end, expected kinds: error record i
+-- word k of error record i
+abbrev pub errorWord : List ℕ → ℕ → ℕ → ℕ
+errorWord errors i k = getD errors (errorCell i k) 0
+
+-- the kinds that error record i lists, as many as the expected buffer has
+abbrev pub kindsOf : List ℕ → List ℕ → ℕ → List ℕ
+kindsOf errors expected i = take (errorWord errors i 5) (drop (errorWord errors i 4) expected)
+
+-- `error`, what was found, start, end, expected kinds
 unfoldable pub errorLine : List ℕ → List ℕ → ℕ → List ℕ
-errorLine errors expected i = line (bytes "error") (found (word 0) (word 1) ++ (decimal (word 2) ∷ decimal (word 3) ∷ map decimal (take (word 5) (drop (word 4) expected))))
-  where
-    word : ℕ → ℕ
-    word k = getD errors (errorCell i k) 0
+errorLine errors expected i =
+    line (bytes "error")
+    (found (errorWord errors i 0) (errorWord errors i 1) ++ (decimal (errorWord errors i 2) ∷ decimal (errorWord errors i 3) ∷ map decimal (kindsOf errors expected i)))
 
 -- answer, readings, node records, errors
 unfoldable pub firstLine : ℕ → ℕ → ℕ → List ℕ

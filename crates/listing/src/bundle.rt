@@ -4,8 +4,10 @@ ghost use Prim.Native.Nat.{_+_, _*_, _≤_, _<_};
 ghost use lib.ListN.{length, getD};
 ghost use Rattle.listing.specs.Bundle.{little, copied, tokenWords, asDecoded, decodedInto};
 
-// The bytes of a count, of a token, and of the counts together.
+// The bytes of a count, of both, and of a token.
 const COUNT_BYTES: usize = 4;
+
+const BOTH_COUNTS: usize = 8;
 
 const TOKEN_BYTES: usize = 9;
 
@@ -65,11 +67,11 @@ fn copy_tokens(bundle: &[u8], tokens: &mut [u32], from: usize, m: usize)
 pub fn decode(bundle: &[u8], text: &mut [u8], tokens: &mut [u32]) -> Decoded
     ensures { λ r. ⌜ asDecoded r (now (text .exit)) (now (tokens .exit)) ≡ decodedInto (now (bundle .entry)) (now (text .entry)) (now (tokens .entry)) ⌝ }
 {
-    if bundle.len() < COUNT_BYTES + COUNT_BYTES {
+    if bundle.len() < BOTH_COUNTS {
         return Decoded::Refused;
     }
     let n = little(bundle, 0) as usize;
-    if bundle.len() - (COUNT_BYTES + COUNT_BYTES) < n {
+    if bundle.len() - BOTH_COUNTS < n {
         return Decoded::Refused;
     }
     if text.len() < n {
@@ -79,7 +81,7 @@ pub fn decode(bundle: &[u8], text: &mut [u8], tokens: &mut [u32]) -> Decoded
     if tokens.len() / 3 < m {
         return Decoded::Refused;
     }
-    let from = COUNT_BYTES + n + COUNT_BYTES;
+    let from = BOTH_COUNTS + n;
     if bundle.len() != from + TOKEN_BYTES * m {
         return Decoded::Refused;
     }

@@ -109,17 +109,17 @@ pub fn error_line(errors: &[u32], expected: &[u8], out: &mut [u8], pen: Pen, i: 
     ensures { λ r. ⌜ page (now (out .exit)) r ≡ emits (errorLine (now (errors .entry)) (now (expected .entry)) i) (page (now (out .entry)) pen) ⌝ }
 {
     let base = ERROR_WORDS * (i as usize);
-    let p1 = put_bytes(out, pen, b"error");
-    let p2 = put_found(
-        out,
-        p1,
-        word_at(errors, base + CLASS),
-        word_at(errors, base + FOUND),
-    );
-    let p3 = put_field(out, p2, word_at(errors, base + ERROR_START) as u64);
-    let p4 = put_field(out, p3, word_at(errors, base + ERROR_END) as u64);
+    let class = word_at(errors, base + CLASS);
+    let what = word_at(errors, base + FOUND);
+    let start = word_at(errors, base + ERROR_START);
+    let end = word_at(errors, base + ERROR_END);
     let from = word_at(errors, base + KINDS_FROM);
-    let p5 = put_kinds(expected, out, p4, from, word_at(errors, base + KINDS_COUNT));
+    let count = word_at(errors, base + KINDS_COUNT);
+    let p1 = put_bytes(out, pen, b"error");
+    let p2 = put_found(out, p1, class, what);
+    let p3 = put_field(out, p2, start as u64);
+    let p4 = put_field(out, p3, end as u64);
+    let p5 = put_kinds(expected, out, p4, from, count);
     put_byte(out, p5, b'\n')
 }
 
