@@ -4,4 +4,5 @@ pub mod Spelled
 pub mod Written
 pub mod LineWays
 pub mod Walks
+pub mod Answered
 pub mod Decoding

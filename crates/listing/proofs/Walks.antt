@@ -12,8 +12,8 @@ use Rattle.cursor.specs.Layout.{nodeWords, FIRST, NEXT}
 use Rattle.cursor.specs.Tree.{Trees, none, node, word, label, trees, meaning}
 use Rattle.listing.specs.declared.page.Pen.{Pen}
 use Rattle.listing.specs.Page.{Page, page, emits}
-use Rattle.listing.specs.Lines.{nodeLine}
-use Rattle.listing.specs.Listing.{rows, rowLines, rowsFrom, nodeLines}
+use Rattle.listing.specs.Lines.{nodeLine, errorLine}
+use Rattle.listing.specs.Listing.{rows, rowLines, rowsFrom, nodeLines, errorsFrom, errorLines}
 use Rattle.listing.proofs.Pages.{andThen}
 
 -- the first ones of two lists in a row
@@ -81,14 +81,18 @@ pub label-words :
 unfolding label word
 label-words xs i a b c d e f = λ j. record { kind = a j; start = b j; end = c j; one = d j; two = e j; flags = f j }
 
--- nothing is printed
-module _ (p : Page) (left : ℕ) {rs : List (ℕ × Label)} (e : rs ≡ []) where
-  pub still : p ≡ emits (rowLines rs) p
-  unfolding rowLines emits
-  still = sym (rw e)
+-- a link that was read
+pub as-word : (xs : List ℕ) (i k : ℕ) {n : ℕ} → n ≡ getD xs (8 * i + k) 0 → n ≡ word xs i k
+unfolding word
+as-word xs i k e = e
 
-  pub all-left : left ≡ left - length rs
-  all-left = sym (rw e (omega arith))
+-- nothing is printed
+pub still : (p : Page) {rs : List (ℕ × Label)} → rs ≡ [] → p ≡ emits (rowLines rs) p
+unfolding rowLines emits
+still p e = sym (rw e)
+
+pub all-left : (left : ℕ) {rs : List (ℕ × Label)} → rs ≡ [] → left ≡ left - length rs
+all-left left e = rw e (omega arith)
 
 -- a node's line, those below it, those after it
 module _ (xs : List ℕ) (level link left i m : ℕ) (l : link ≡ suc i) (h : left ≡ suc m) {first next rest : ℕ} (a : first ≡ word xs i FIRST) (b : next ≡ word xs i NEXT) (r : rest ≡ m - length (rowsFrom xs first (level + 1) m)) where
@@ -104,3 +108,38 @@ module _ (xs : List ℕ) (level link left i m : ℕ) (l : link ≡ suc i) (h : l
       let s = ap length rows-split in
       let t = length-append (rowsFrom xs first (level + 1) m) (rowsFrom xs next level rest) in
       omega arith
+
+-- the whole tree, from its root
+module _ (xs : List ℕ) (count : ℕ) {left : ℕ} (e : left ≡ min count (length xs / 8)) where
+  pub tree-none : (p : Page) → left ≡ 0 → p ≡ emits (nodeLines xs count) p
+  unfolding nodeLines rowLines emits
+  tree-none p h = sym (rw (sym e ∙ h))
+
+  tree-rows : (m : ℕ) → left ≡ suc m → take (min count (length xs / 8)) (rows 0 (meaning xs (count - 1))) ≡ (0, label xs (count - 1)) ∷ rowsFrom xs (word xs (count - 1) FIRST) 1 m
+  unfolding rows meaning rowsFrom
+  tree-rows m h =
+      let i : ℕ = count - 1 in
+      let g : m ≤ length xs = omega arith in
+      rw (sym e ∙ h, append-nil (rows 1 (trees (length xs) xs (word xs i FIRST)))) (ap (λ l. (0, label xs i) ∷ l) (agree (length xs) xs m m (word xs i FIRST) 1 g (omega arith)))
+
+  pub tree-lines : (m : ℕ) (p : Page) {first : ℕ} {p1 p2 : Page} → left ≡ suc m → first ≡ word xs (count - 1) FIRST → p1 ≡ emits (nodeLine 0 (label xs (count - 1))) p → p2 ≡ emits (rowLines (rowsFrom xs first 1 m)) p1 → p2 ≡ emits (nodeLines xs count) p
+  unfolding nodeLines rowLines
+  tree-lines m p {first} h a f g = rw (tree-rows m h, ← a) (andThen (nodeLine 0 (label xs (count - 1))) (rowLines (rowsFrom xs first 1 m)) p f g)
+
+-- the label that was read, as a node's line has it
+pub read-line : (xs : List ℕ) (i level : ℕ) (p : Page) {l : Label} {q : Page} → l ≡ label xs i → q ≡ emits (nodeLine level l) p → q ≡ emits (nodeLine level (label xs i)) p
+read-line xs i level p e f = rw (← e) f
+
+-- one error more, and no more
+module _ (errors expected : List ℕ) (i end : ℕ) (p : Page) where
+  pub errors-on : {q : Page} → i < end → q ≡ emits (errorLine errors expected i) p → emits (errorsFrom errors expected i (end - i)) p ≡ emits (errorsFrom errors expected (i + 1) (end - (i + 1))) q
+  unfolding errorsFrom
+  errors-on h e = let k : end - i ≡ suc (end - (i + 1)) = omega arith in rw k (sym (andThen (errorLine errors expected i) _ p e refl))
+
+  pub errors-end : end ≤ i → emits (errorsFrom errors expected i (end - i)) p ≡ p
+  unfolding errorsFrom emits
+  errors-end h = let k : end - i ≡ 0 = omega arith in rw k
+
+pub errors-all : (errors expected : List ℕ) (count : ℕ) (p : Page) {end : ℕ} → end ≡ min count (length errors / 6) → emits (errorLines errors expected count) p ≡ emits (errorsFrom errors expected 0 end) p
+unfolding errorLines
+errors-all errors expected count p e = rw e
