@@ -35,3 +35,11 @@ module _ (b out ys zs : List ℕ) {m : Pen} (k : length ys ≡ 0) (e : page ys m
       let s : length b ≤ length out = omega arith in
       let t = f ∙ ap (λ (l : List ℕ). emits b (page l (record { at = 0; room = length out + 1 }))) (none-before ys out k) ∙ emits-front b out (length out + 1) s (omega arith) in
       ap (λ (p : Page). wrote (p .pen .at) (p .out)) t ∙ sym (rw (le-leb (length b) (length out) s, written))
+
+-- where there is room, it is not refused
+pub never-short : (b out outs outs′ : List ℕ) (k : ℕ) {room : ℕ} → length out ≡ room → length b ≤ room → short outs ≡ written b out → wrote k outs′ ≡ written b out
+unfolding written
+never-short b out outs outs′ k r h e =
+    let f = rw (le-leb (length b) (length out) (rw r h), written) at e in
+    let z : _≡_ {A = ℕ} 0 1 = cc in
+    absurd (omega arith)

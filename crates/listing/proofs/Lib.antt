@@ -6,3 +6,7 @@ pub mod LineWays
 pub mod Walks
 pub mod Answered
 pub mod Decoding
+pub mod Example
+pub mod Finished
+pub mod Unique
+pub mod Room

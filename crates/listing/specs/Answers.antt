@@ -2,6 +2,7 @@
 use Prim.Native.Nat.{ℕ}
 use mathlib.Core.List.{List, _++_}
 use mathlib.Core.Bool.{true, false}
+use mathlib.Core.Path.{_≡_}
 use lib.Dec.{leb}
 use lib.ListN.{length, drop}
 use Rattle.listing.specs.declared.list.Listed.{Listed}
@@ -15,6 +16,13 @@ pub data Outcome : Type 0 where
 abbrev pub asListed : Listed → List ℕ → Outcome
 asListed (listed.Written n) out = wrote n out
 asListed listed.NoRoom out = short out
+
+-- the buffers that the lister lends: 1,024 node records, 16 error records, 1,024 expected kinds, and bytes for the listing
+pub record Sized (n e x o : List ℕ) : Type 0 where
+  pub nodes : length n ≡ 8192
+  pub errors : length e ≡ 96
+  pub expected : length x ≡ 1024
+  pub out : length o ≡ 262144
 
 -- the bytes stand at the buffer's start and all behind them is as it was; a buffer too short is left as it was
 unfoldable pub written : List ℕ → List ℕ → Outcome

@@ -10,5 +10,6 @@ pub use bundle::Decoded;
 pub use bundle::decode;
 pub use list::Counts;
 pub use list::Listed;
+pub use list::lent_listing;
 pub use list::listing;
 pub use list::refusal;

@@ -2,7 +2,7 @@
 ghost use mathlib.Core.Path.{_≡_};
 ghost use Rattle.listing.specs.Page.{page, emits};
 ghost use Rattle.listing.specs.Listing.{errorLines, listingOf, refusalOf};
-ghost use Rattle.listing.specs.Answers.{asListed, written};
+ghost use Rattle.listing.specs.Answers.{Sized, asListed, wrote, written};
 use crate::lines::error_line;
 use crate::lines::first_line;
 use crate::page::Pen;
@@ -79,6 +79,52 @@ pub fn listing(
     }
     let done = lines(nodes, errors, expected, out, Pen { at: 0, room }, counts);
     Listed::Written(done.at)
+}
+
+// The same in buffers as long as those that the lister lends, where there is always room.
+fn sized_listing(
+    nodes: &[u32],
+    errors: &[u32],
+    expected: &[u8],
+    out: &mut [u8],
+    r: u32,
+    n: u32,
+    e: u32,
+) -> usize
+    requires { ⌜ Sized (now nodes) (now errors) (now expected) (now out) ⌝ }
+    ensures { λ len. ⌜ wrote len (now (out .exit)) ≡ written (listingOf (now (nodes .entry)) (now (errors .entry)) (now (expected .entry)) (record { reads = r; nodes = n; errors = e })) (now (out .entry)) ⌝ }
+{
+    let counts = Counts {
+        reads: r,
+        nodes: n,
+        errors: e,
+    };
+    let listed = listing(nodes, errors, expected, out, counts);
+    match listed {
+        Listed::Written(len) => len,
+        Listed::NoRoom => 0,
+    }
+}
+
+// The same in the very buffers that the lister lends: 1,024 node records, 16 error records, 1,024 expected kinds.
+pub fn lent_listing(
+    nodes: &[u32; 8192],
+    errors: &[u32; 96],
+    expected: &[u8; 1024],
+    out: &mut [u8; 262144],
+    counts: Counts,
+) -> usize
+    ensures { λ r. ⌜ wrote r (now (out .exit)) ≡ written (listingOf (now (nodes .entry)) (now (errors .entry)) (now (expected .entry)) counts) (now (out .entry)) ⌝ }
+{
+    sized_listing(
+        nodes,
+        errors,
+        expected,
+        out,
+        counts.reads,
+        counts.nodes,
+        counts.errors,
+    )
 }
 
 fn refusal_line(out: &mut [u8], pen: Pen, number: u8) -> Pen
