@@ -1,5 +1,4 @@
 // The lister: a bundle from standard input, its listing to standard output.
-use cursor::records::NODE_WORDS;
 use libc::STDIN_FILENO;
 use libc::STDOUT_FILENO;
 use listing::Counts;
@@ -64,33 +63,44 @@ fn read_sheet(nodes: &mut [u32; 8192]) -> Counts {
     }
 }
 
-// The bytes at the start of the buffer that are to be printed.
-fn length_of(listed: Listed) -> usize {
+// What is printed for refusal 12.
+fn refused(out: &mut [u8; 262144]) -> usize {
+    let listed = listing::refusal(out, 12);
     match listed {
         Listed::Written(n) => n,
         Listed::NoRoom => 0,
     }
 }
 
-// What is printed for a bundle.
+// What is printed for a bundle: so many bytes at the buffer's start.
 fn answer(bundle: &[u8], out: &mut [u8; 262144]) -> usize {
     let mut text = [0u8; 16384];
     let mut tokens = [0u32; 4500];
     let decoded = listing::decode(bundle, &mut text, &mut tokens);
-    if let Decoded::Refused = decoded {
-        return length_of(listing::refusal(out, 12));
+    match decoded {
+        Decoded::Sheet(_, _) => {
+            let mut nodes = [0u32; 8192];
+            let errors = [0u32; 96];
+            let expected = [0u8; 1024];
+            let counts = read_sheet(&mut nodes);
+            listing::lent_listing(&nodes, &errors, &expected, out, counts)
+        }
+        Decoded::Refused => refused(out),
     }
-    let mut nodes = [0u32; 8192];
-    let errors = [0u32; 96];
-    let expected = [0u8; 1024];
-    let counts = read_sheet(&mut nodes);
-    length_of(listing::listing(&nodes, &errors, &expected, out, counts))
 }
 
+fn print(out: &[u8; 262144], end: usize) {
+    let bytes: &[u8] = out;
+    if end <= bytes.len() {
+        io::write_all(STDOUT_FILENO, &bytes[..end]);
+    }
+}
+
+// One byte more than the largest bundle that the buffers hold, so that a larger one is seen to be.
 fn main() {
     let mut bundle = [0u8; 29893];
     let n = io::read_full(STDIN_FILENO, &mut bundle);
     let mut out = [0u8; 262144];
     let end = answer(&bundle[..n], &mut out);
-    io::write_all(STDOUT_FILENO, &out[..end]);
+    print(&out, end);
 }
