@@ -1,0 +1,12 @@
+pub mod Pages
+pub mod Decimals
+pub mod Spelled
+pub mod Written
+pub mod LineWays
+pub mod Walks
+pub mod Answered
+pub mod Decoding
+pub mod Example
+pub mod Finished
+pub mod Unique
+pub mod Room

@@ -1,0 +1,18 @@
+-- `listing::lines::word_at` meets its contract.
+-- Assumes nothing.
+use mathlib.Core.Path.{sym}
+use lib.ListN.{List·getD-eq-default}
+use Rattle.listing.proofs.lines.word_at.Statement.{statement}
+use Rattle.listing.proofs.lines.word_at.Tie as tie
+use borrow.Author.Needs.{needs}
+
+returns-2 : tie.Need-returns-2
+returns-2 c = sym (List·getD-eq-default (c .before .args .words .now) 0 (c .if1 .left))
+
+pub word-at-spec : {M : Type 1} → statement M
+word-at-spec =
+    tie.close (tie.spec
+    (λ c. search needs)
+    (λ c. search needs)
+    (λ c. search needs)
+    returns-2)

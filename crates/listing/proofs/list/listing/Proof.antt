@@ -1,0 +1,33 @@
+-- `listing::list::listing` meets its contract.
+-- Assumes nothing.
+use mathlib.Core.Path.{_≡_, ap, _∙_}
+use lib.ListN.{length}
+use Rattle.listing.proofs.Answered as ways
+use Rattle.listing.proofs.list.listing.Statement.{statement}
+use Rattle.listing.proofs.list.listing.Tie as tie
+use borrow.Author.Needs.{needs}
+
+same-length : tie.Need-same-length
+same-length c = let c₁ = c .before .before .before .before in let c₂ = c₁ .before .before .before .before .before .before in ap length (ways.none-before (c₁ .lines .last .1 .1 .1 .0) (c₂ .args .out .now) (c₁ .lines .kept .1 .1 .1 .0))
+
+returns : tie.Need-returns
+returns c = let c₁ = c .before .before .before .before in ways.no-room _ _ (c₁ .lines .last .1 .1 .1 .0) _ (c₁ .lines .kept .1 .1 .1 .0) (c₁ .lines .ensures) (c .if1 .taken)
+
+same-length-2 : tie.Need-same-length-2
+same-length-2 c = let c₁ = c .before .before in let c₂ = c₁ .before .before .before .before .before .before in let c₃ = c₂ .before .before .before .before .before .before in c₁ .lines2 .kept .1 .1 .1 .0 ∙ ap length (ways.none-before (c₂ .lines .last .1 .1 .1 .0) (c₃ .args .out .now) (c₂ .lines .kept .1 .1 .1 .0))
+
+returns-2 : tie.Need-returns-2
+returns-2 c = let c₁ = c .before .before in let c₂ = c₁ .before .before in let c₃ = c₂ .before .before .before .before in ways.with-room _ _ (c₃ .lines .last .1 .1 .1 .0) _ (c₃ .lines .kept .1 .1 .1 .0) (c₃ .lines .ensures) (c₂ .if1 .left) (c₁ .lines2 .ensures)
+
+pub listing-spec : {M : Type 1} → statement M
+listing-spec =
+    tie.close (tie.spec
+    (λ c. search needs)
+    (λ c. search needs)
+    (λ c. search needs)
+    (λ c κs. tt)
+    same-length
+    returns
+    (λ c κs. tt)
+    same-length-2
+    returns-2)
