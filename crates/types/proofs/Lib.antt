@@ -5,3 +5,4 @@ pub mod PatternKeeps
 pub mod PatternPaths
 pub mod TypeKeeps
 pub mod TypePaths
+pub mod Unique
