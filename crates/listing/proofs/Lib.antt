@@ -6,6 +6,8 @@ pub mod LineWays
 pub mod Walks
 pub mod Answered
 pub mod Decoding
+pub mod Bundles
+pub mod Accepted
 pub mod Example
 pub mod Finished
 pub mod Unique

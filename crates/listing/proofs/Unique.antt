@@ -8,7 +8,6 @@ use denote.Ref.{now}
 use Rattle.kinds.specs.Listing.{nameBytes}
 use Rattle.listing.specs.declared.bundle.Decoded.{Decoded}
 use Rattle.listing.specs.declared.bundle.Decoded.the-variants as decoded
-use Rattle.listing.specs.declared.list.Listed.{Listed}
 use Rattle.listing.specs.declared.list.Listed.the-variants as listed
 use Rattle.listing.specs.declared.page.Pen.{Pen}
 use Rattle.listing.specs.Answers.{asListed, wrote}

@@ -1,7 +1,8 @@
 -- A bundle is a text and a token list, each after its count. Numbers are little-endian.
-use Prim.Native.Nat.{ℕ, zero, suc, _+_, _-_, _*_, _/_, _%_}
+use Prim.Native.Nat.{ℕ, zero, suc, _+_, _-_, _*_, _/_, _%_, _^_, _<_, _≤_}
 use mathlib.Core.List.{List, [], _∷_, _++_}
 use mathlib.Core.Bool.{Bool, true, false}
+use mathlib.Core.Path.{_≡_}
 use lib.Dec.{leb, eqb}
 use lib.ListN.{length, getD, take, drop}
 use Rattle.listing.specs.declared.bundle.Decoded.{Decoded}
@@ -21,6 +22,31 @@ tokenBytes (kind ∷ start ∷ []) = []
 -- the bundle of a text and its tokens
 unfoldable pub bundleOf : List ℕ → List ℕ → List ℕ
 bundleOf text tokens = fourBytes (length text) ++ (text ++ (fourBytes (length tokens / 3) ++ tokenBytes tokens))
+
+-- each is a byte
+abbrev pub Bytes : List ℕ → Type 0
+Bytes [] = Unit {0}
+Bytes (b ∷ bs) = (b < 256) × Bytes bs
+
+-- whole tokens, each of them a byte and two words of four bytes
+abbrev pub Tokens : List ℕ → Type 0
+Tokens [] = Unit {0}
+Tokens (kind ∷ []) = ⊥
+Tokens (kind ∷ start ∷ []) = ⊥
+Tokens (kind ∷ start ∷ end ∷ rest) = (kind < 256) × (start < 2 ^ 32) × (end < 2 ^ 32) × Tokens rest
+
+-- what it is to be a bundle for which a buffer of so many bytes and one of so many words have room: to be that of some text and tokens.
+-- The lister's rooms are 16,384 and 4,500
+pub record Bundled (textRoom wordRoom : ℕ) (b : List ℕ) : Type 0 where
+  pub text : List ℕ
+  pub tokens : List ℕ
+  pub whole : b ≡ bundleOf text tokens
+  pub eachByte : Bytes text
+  pub eachToken : Tokens tokens
+  pub textCounted : length text < 2 ^ 32
+  pub tokensCounted : length tokens / 3 < 2 ^ 32
+  pub textFits : length text ≤ textRoom
+  pub tokensFit : length tokens ≤ wordRoom
 
 -- the number in the four bytes from a place on
 unfoldable pub little : List ℕ → ℕ → ℕ
