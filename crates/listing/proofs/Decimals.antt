@@ -1,4 +1,4 @@
--- A number's digits, one at a time; that they spell it, and that no others do.
+-- A number's digits, one at a time, and an integer's by its sign.
 -- Assumes nothing.
 use mathlib.Core.Path.{_≡_, refl, sym, ap, _∙_}
 use mathlib.Core.List.{List, [], _∷_, _++_, map, map-append}
@@ -42,3 +42,11 @@ decimal-one n h = rw (digits-one n h)
 pub decimal-more : (n : ℕ) → 10 ≤ n → decimal n ≡ decimal (n / 10) ++ ((48 + n % 10) ∷ [])
 unfolding decimal
 decimal-more n h = rw (digits-more n h) (map-append (λ d. 48 + d) (digits (n / 10)) (n % 10 ∷ []))
+
+pub integer-small : (bits : ℕ) → bits < 2 ^ 63 → integer bits ≡ decimal bits
+unfolding integer
+integer-small bits h = rw (lt-ltb bits (2 ^ 63) h, integer)
+
+pub integer-large : (bits : ℕ) → 2 ^ 63 ≤ bits → integer bits ≡ 45 ∷ decimal (2 ^ 64 - bits)
+unfolding integer
+integer-large bits h = rw (le-ltb bits (2 ^ 63) h, integer)

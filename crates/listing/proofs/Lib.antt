@@ -1,5 +1,6 @@
 pub mod Pages
 pub mod Decimals
+pub mod Spelling
 pub mod Spelled
 pub mod Written
 pub mod LineWays

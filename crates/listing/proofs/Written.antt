@@ -3,13 +3,12 @@
 use mathlib.Core.Path.{_≡_, refl, sym, ap, _∙_}
 use mathlib.Core.List.{List, [], _∷_, _++_, append-assoc, append-nil}
 use Prim.Native.Nat.{ℕ, suc, _+_, _-_, _*_, _/_, _%_, _^_, _<_, _≤_}
-use borrow.Author.Tests.{lt-ltb, le-ltb}
 use Rattle.listing.specs.Page.{Page, page, emit, emits}
 use Rattle.listing.specs.Decimal.{decimal, integer}
 use Rattle.listing.specs.Names.{nameFrom}
 use Rattle.listing.specs.Lines.{fields}
 use Rattle.listing.proofs.Pages.{andThen}
-use Rattle.listing.proofs.Decimals.{decimal-one, decimal-more}
+use Rattle.listing.proofs.Decimals.{decimal-one, decimal-more, integer-small, integer-large}
 
 module _ (p : Page) {q : Page} where
   -- the same bytes, otherwise told
@@ -26,12 +25,10 @@ module _ (p : Page) {q : Page} where
   -- an integer, by its sign
   module _ (bits : ℕ) where
     pub integer-plus : bits < 2 ^ 63 → q ≡ emits (decimal bits) p → q ≡ emits (integer bits) p
-    unfolding integer
-    integer-plus h f = rw (lt-ltb bits (2 ^ 63) h, integer) f
+    integer-plus h f = rw (integer-small bits h) f
 
     pub integer-minus : {r : Page} {n : ℕ} → 2 ^ 63 ≤ bits → n ≡ 2 ^ 64 - bits → q ≡ emits (45 ∷ []) p → r ≡ emits (decimal n) q → r ≡ emits (integer bits) p
-    unfolding integer
-    integer-minus h e f g = rw (le-ltb bits (2 ^ 63) h, integer) (andThen (45 ∷ []) (decimal (2 ^ 64 - bits)) p f (rw e at g))
+    integer-minus h e f g = rw (integer-large bits h) (andThen (45 ∷ []) (decimal (2 ^ 64 - bits)) p f (rw e at g))
 
   -- a field after a space
   pub field : {r : Page} (f : List ℕ) → q ≡ emits (32 ∷ []) p → r ≡ emits f q → r ≡ emits (fields (f ∷ [])) p
