@@ -7,6 +7,12 @@ use Rattle.types.proofs.lits.bits.Tie as tie
 use borrow.Author.Needs.{needs}
 use Prim.Native.Nat.{_+_}
 
+returns-3 : tie.Need-returns-3
+returns-3 c = (let h : 0 ≡ (2 ^ 64 - c .before .before .before .args .magnitude) % 2 ^ 64 = omega arith in h) ∙ ap (λ g. bitsOf g (c .before .before .before .args .magnitude)) (sym (c .before .enum-told3 .given .1))
+
+returns-4 : tie.Need-returns-4
+returns-4 c = (let h : 2 ^ 64 - 1 - c .before .before .before .args .magnitude + 1 ≡ (2 ^ 64 - c .before .before .before .args .magnitude) % 2 ^ 64 = omega arith in h) ∙ ap (λ g. bitsOf g (c .before .before .before .args .magnitude)) (sym (c .before .enum-told3 .given .1))
+
 pub bits-spec : {M : Type 1} → statement M
 bits-spec =
     tie.close (tie.spec
@@ -17,7 +23,5 @@ bits-spec =
     (λ c. search needs)
     (λ c. search needs)
     (λ c. search needs)
-    -- returns-3
-    (λ c. (let h : 0 ≡ (2 ^ 64 - c .before .before .before .args .magnitude) % 2 ^ 64 = omega arith in h) ∙ ap (λ g. bitsOf g (c .before .before .before .args .magnitude)) (sym (c .before .enum-told3 .given .1)))
-    -- returns-4
-    (λ c. (let h : 2 ^ 64 - 1 - c .before .before .before .args .magnitude + 1 ≡ (2 ^ 64 - c .before .before .before .args .magnitude) % 2 ^ 64 = omega arith in h) ∙ ap (λ g. bitsOf g (c .before .before .before .args .magnitude)) (sym (c .before .enum-told3 .given .1))))
+    returns-3
+    returns-4)
