@@ -19,3 +19,4 @@ pub mod Spends
 pub mod Spent
 pub mod Told
 pub mod Unique
+pub mod RuledOut
