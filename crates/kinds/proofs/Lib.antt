@@ -3,3 +3,4 @@ pub mod Rest
 pub mod Parts
 pub mod Theorems
 pub mod Unique
+pub mod RuledOut
