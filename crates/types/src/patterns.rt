@@ -45,7 +45,7 @@ pub const PAIRS: u32 = 0;
 pub const PATTERNS: u32 = 1;
 
 // A range, or the empty one at 0 where there is none.
-fn span_of(range: Ranged) -> Span
+pub fn span_of(range: Ranged) -> Span
     ensures { λ r. ⌜ r ≡ spanOf range ⌝ }
 {
     match range {

@@ -1,0 +1,12 @@
+pub mod AttemptPaths
+pub mod EffectPaths
+pub mod ImportPaths
+pub mod ImportTakes
+pub mod RecordPaths
+pub mod RecoveryPaths
+pub mod SkipTakes
+pub mod StepPaths
+pub mod StepTakes
+pub mod Told
+pub mod Unique
+pub mod UntilPaths

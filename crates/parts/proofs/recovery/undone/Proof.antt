@@ -1,0 +1,20 @@
+-- `undone` meets its contract: a fault rewinds to the mark, a refusal stays one.
+use Rattle.parts.proofs.RecoveryPaths as paths
+use Rattle.parts.proofs.recovery.undone.Statement.{statement}
+use Rattle.parts.proofs.recovery.undone.Tie as tie
+use mathlib.Core.Path.{sym}
+
+returns : tie.Need-returns
+returns c = λ w. sym (paths.undo-fault _ _ (c .before .before .lost .given .1) (c .rewind .ensures))
+
+returns-2 : tie.Need-returns-2
+returns-2 c = λ w. sym (paths.undo-refused _ _ (c .before .lost2 .given .1))
+
+pub undone-spec : {M : Type 1} → statement M
+undone-spec =
+    tie.close (tie.spec
+    (λ c. c .match .keys1)
+    (λ c κs. tt)
+    (λ c. c .match .keys2)
+    returns
+    returns-2)

@@ -1,0 +1,9 @@
+pub mod Values
+pub mod Answers
+pub mod When
+pub mod Records
+pub mod Steps
+pub mod Until
+pub mod Effects
+pub mod Imports
+pub mod Recovery

@@ -1,0 +1,142 @@
+-- Steps of the rules on expressions that lead back to no expression.
+use Prim.Native.Nat.{ℕ, zero, suc, _+_, _-_, _%_}
+use mathlib.Core.List.{List}
+use mathlib.Core.Bool.{Bool, true, false}
+use lib.Dec.{ltb, eqb}
+use Rattle.kinds.specs.Number as kind
+use Rattle.kinds.specs.Text.{part}
+use Rattle.kinds.specs.declared.types.TypeWord.{TypeWord}
+use Rattle.kinds.specs.declared.types.TypeWord.the-variants as words
+use Rattle.kinds.specs.TypeWords.{typeWord, typeNumber}
+use Rattle.cursor.specs.declared.Kids.{Kids}
+use Rattle.cursor.specs.declared.Fault.{Fault}
+use Rattle.cursor.specs.declared.Span.{Span}
+use Rattle.cursor.specs.declared.Ranged.{Ranged}
+use Rattle.cursor.specs.declared.Ranged.the-variants as ranged
+use Rattle.cursor.specs.Node as node
+use Rattle.cursor.specs.Sheet.{Sheet, kindAt, rangeAt}
+use Rattle.cursor.specs.Rule.{World, Out, done, Rule, _>>=_, _>>_, give, ifSo, Next, more, stop, Turn, iterate}
+use Rattle.cursor.specs.Tokens.{bump}
+use Rattle.cursor.specs.Checks.{check, eat, expect, unexpected}
+use Rattle.cursor.specs.Records.{append, add, noKids}
+use Rattle.types.specs.declared.items.Items.{Items}
+use Rattle.types.specs.Lits.{lit, ident}
+use Rattle.types.specs.Items.{close, isEnded}
+use Rattle.types.specs.Types.{params, closureParams}
+use Rattle.parts.specs.declared.values.Expr.{Expr}
+use Rattle.parts.specs.declared.values.Expr.the-variants as exprs
+use Rattle.parts.specs.declared.steps.Checked.{Checked}
+use Rattle.parts.specs.declared.steps.Checked.the-variants as checked
+use Rattle.parts.specs.Values.{linkOf}
+use Rattle.parts.specs.When.{when}
+
+-- an error that lists no expected kinds
+abbrev pub alone : ℕ → Span → Fault
+alone k span = record { class = 0; found = k; span = span; listed = false }
+
+-- the operator of a compound assignment, by its place in the chain of signs: the fourth is `+=`
+abbrev pub operatorOf : ℕ → ℕ
+operatorOf which = kind.Add - 3 + which % 8
+
+-- how a list of each item rule ends: 0 arguments, 1 elements, 2 properties
+unfoldable pub itemsEnd : ℕ → ℕ
+itemsEnd k = elim (eqb k 0) as (λ _. ℕ) [ true ↦ kind.CloseParen | false ↦ elim (eqb k 1) as (λ _. ℕ) [ true ↦ kind.CloseBracket | false ↦ kind.CloseBrace ] ]
+
+-- the type that a token names after `is`: null by its kind, the others by the bytes of their word
+abbrev pub checkedBy : TypeWord → Checked
+checkedBy (words.Known v) = checked.Type (typeNumber v)
+checkedBy words.Unknown = checked.Unknown
+
+unfoldable pub checkedType : List ℕ → ℕ → Span → Checked
+checkedType text k r = elim (eqb k kind.Null) as (λ _. Checked) [
+  | true ↦ checked.Type 0
+  | false ↦ elim (eqb k kind.Ident) as (λ _. Checked) [ true ↦ checkedBy (typeWord (part text (r .start) (r .end))) | false ↦ checked.Unknown ]
+]
+
+module _ (e : Sheet) where
+  -- the parameters of a function or of a closure
+  unfoldable pub anyParams : Rule ℕ → Bool → Rule Items
+  anyParams atom closure = when closure (closureParams e atom noKids) (params e atom noKids)
+
+  -- does a trailing lambda stand here? Where none is allowed nothing is asked
+  unfoldable pub braced : Bool → Rule Bool
+  braced lambda = when lambda (check e kind.OpenBrace) (give false)
+
+  -- no member stands here: an error after `?`, and otherwise the end of the expression
+  unfoldable pub noMember : Ranged → Expr → Rule (Next Expr)
+  noMember safe x = when (isEnded safe) (unexpected e) (give (stop x))
+
+  -- behind the `#` of a meta member: the bracket's end, where it is one
+  unfoldable pub metaEnd : ℕ → Rule ℕ
+  metaEnd which = when (ltb 0 which) (give 0) (do
+    expect e kind.CloseBracket
+    give 0)
+
+  -- a literal as a table's key, and its colon
+  unfoldable pub litKey : Rule ℕ
+  litKey = do
+    link ← lit e
+    expect e kind.Colon
+    give link
+
+  -- the record of a key in parentheses: it ends before the colon and is built behind it
+  unfoldable pub parenKeyAt : ℕ → ℕ → Rule ℕ
+  parenKeyAt from link s w = (do
+    expect e kind.Colon
+    append (record { kind = node.Paren; start = from; end = s .prev; one = 0; two = 0; flags = 0 }) link) s w
+
+  -- an expression in parentheses as a table's key, from behind the expression on, and its colon
+  unfoldable pub parenKey : ℕ → ℕ → Rule ℕ
+  parenKey from link = do
+    expect e kind.CloseParen
+    parenKeyAt from link
+
+  -- `break`, the thirteenth form of an atom, and `continue`
+  unfoldable pub leaf : ℕ → ℕ → Rule ℕ
+  leaf from which = do
+    bump e
+    when (eqb which 12) (close node.Break from 0 0 0 0) (close node.Continue from 0 0 0 0)
+
+  -- parse_items, for names
+  unfoldable pub nameTurn : Turn Kids
+  nameTurn kids = do
+    link ← ident e
+    longer ← add kids link
+    comma ← eat e kind.Comma
+    ifSo (give (more longer)) (give (stop longer)) comma
+
+  unfoldable pub names : Rule Kids
+  names = iterate e nameTurn noKids
+
+  -- the names of a `for` and its `in`; `while`, the eleventh form of an atom, has none
+  unfoldable pub loopNames : ℕ → Rule Kids
+  loopNames which = when (eqb which 10) (give noKids) (do
+    kids ← names
+    expect e kind.In
+    give kids)
+
+  -- the patterns of a case, between bars
+  unfoldable pub patternTurn : Rule ℕ → Turn Kids
+  patternTurn pattern kids = do
+    link ← pattern
+    longer ← add kids link
+    bar ← eat e kind.VBar
+    ifSo (give (more longer)) (give (stop longer)) bar
+
+  unfoldable pub casePatterns : Rule ℕ → Rule Kids
+  casePatterns pattern = iterate e (patternTurn pattern) noKids
+
+  -- behind `is`: one token that names a type, and the record over what stands before it
+  unfoldable pub typeChecked : ℕ → Expr → Span → Checked → Rule (Next Expr)
+  typeChecked from x r (checked.Type n) = do
+    bump e
+    link ← close node.TypeCheck from n (r .start) 0 (linkOf x)
+    give (more (exprs.Other link))
+  typeChecked from x r checked.Unknown = unexpected e
+
+  unfoldable pub typeCheckAt : ℕ → Expr → ℕ → Ranged → Rule (Next Expr)
+  typeCheckAt from x k (ranged.At r) = typeChecked from x r (checkedType (e .text) k r)
+  typeCheckAt from x k ranged.Nowhere = unexpected e
+
+  unfoldable pub typeCheck : ℕ → Expr → Rule (Next Expr)
+  typeCheck from x s w = typeCheckAt from x (kindAt (e .tokens) (s .at)) (rangeAt (e .tokens) (s .at)) s w
