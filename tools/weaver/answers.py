@@ -137,7 +137,7 @@ def write_out(term, answers, full, need, here, kept):
         if not here or not here.keys(need):
             raise WeaveError('%s stands at no arm of a match, so there is no @keys' % where)
         term = term.replace('@keys', here.keys(need))
-    return _lets(re.split(r'@([\w·-]+)((?:<[\w·-]*)?)', term), chain, where)
+    return _lets(re.split(r'@([\w·«»-]+)((?:<[\w·«»-]*)?)', term), chain, where)
 
 
 def _macros(term, macros, where):

@@ -87,7 +87,7 @@ def _need(found, kinds, line):
 
 
 def _call(found, kinds, line):
-    m = re.search(r'After-(\S+)·own = Called\.Called (ps·\d+)', line)
+    m = re.search(r"After-(\S+)·own = Called'?\.Called (ps·\d+)", line)
     if m:
         found.calls[m.group(1)] = kinds.get(m.group(2), [])
     return m is not None

@@ -43,11 +43,14 @@ def offered_files(said):
 
 
 def read_skeleton(text):
-    """The Skeleton of the lines that rt offers."""
+    """The Skeleton of the lines that rt offers. A name that is a word of antt's own is quoted where it is imported, and has to be wherever
+    it is used."""
+    for name in re.findall(r' as «([\w-]+)»$', text, re.M):
+        text = re.sub(r'(?<![\w«-])%s\.(?=Pre|Post)' % name, '«%s».' % name, text)
     skeleton = Skeleton()
     *blocks, skeleton.spec = [b for b in re.split(r'\n\s*\n', text.strip())]
     for block in blocks:
-        m = re.search(r'^(\S+)((?: [^\s=]+)*) = (\?|search needs)\Z', block, re.M)
+        m = re.search(r'^(\S+)((?: [^\s=]+)*) =\s+(\?|search needs)\Z', block, re.M)
         if m:
             place = re.match(r'-- (\S+)\n', block)
             head = block[place.end() if place else 0:m.start()]

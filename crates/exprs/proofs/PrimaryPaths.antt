@@ -1,0 +1,134 @@
+-- Each way through the rules on calls and members, as the code goes through them.
+use mathlib.Core.Path.{_≡_, refl, sym, ap, _∙_}
+use mathlib.Core.Bool.{Bool, true, false}
+use Prim.Native.Nat.{ℕ, zero, suc, _<_, _≤_}
+use borrow.Author.Tests.{lt-ltb, le-ltb}
+use Rattle.kinds.specs.Number as kind
+use Rattle.cursor.specs.declared.State.{State}
+use Rattle.cursor.specs.declared.Ranged.{Ranged}
+use Rattle.cursor.specs.Node as node
+use Rattle.cursor.specs.Rule.{World, Stop, Out, done, failed}
+use Rattle.cursor.specs.Tokens.{bump}
+use Rattle.cursor.specs.Checks.{eat, expect, eatRange, pick}
+use Rattle.types.specs.declared.items.Items.{Items}
+use Rattle.types.specs.Lits.{ident}
+use Rattle.parts.specs.declared.values.Expr.{Expr}
+use Rattle.parts.specs.Values.{linkOf, rowOf}
+use Rattle.exprs.specs.Inner.{Inner, expr}
+use Rattle.parts.specs.Records.{callRecord, memberRecord}
+use Rattle.parts.specs.Steps.{braced, noMember, metaEnd}
+use Rattle.exprs.specs.Blocks.{block}
+use Rattle.exprs.specs.Tables.{itemsOf}
+use Rattle.exprs.specs.Primary.{memberChain, member, access, call, postfixTurn}
+
+-- what stands behind a member's opening token
+module _ (r : Inner) (which : ℕ) (s : State) (w : World) where
+  pub member-spent : {x : Stop} → bump (r .sheet) s w ≡ failed x → member r which s w ≡ failed x
+  unfolding member
+  member-spent p = rw p
+
+  module _ {s1 : State} {w1 : World} (p : bump (r .sheet) s w ≡ done s1 w1 tt) where
+    pub member-full : {x : Stop} → eat (r .sheet) kind.Pound s1 w1 ≡ failed x → member r which s w ≡ failed x
+    unfolding member
+    member-full q = rw p (rw q)
+
+    pub member-meta : {s2 : State} {w2 : World} → eat (r .sheet) kind.Pound s1 w1 ≡ done s2 w2 true → member r which s w ≡ metaEnd (r .sheet) which s2 w2
+    unfolding member
+    member-meta q = rw p (rw q)
+
+    module _ {s2 : State} {w2 : World} (q : eat (r .sheet) kind.Pound s1 w1 ≡ done s2 w2 false) where
+      pub member-name : 0 < which → member r which s w ≡ ident (r .sheet) s2 w2
+      unfolding member
+      member-name t = rw p (rw q (rw (lt-ltb _ _ t)))
+
+      module _ (t : which ≤ 0) where
+        pub member-failed : {x : Stop} → expr r true s2 w2 ≡ failed x → member r which s w ≡ failed x
+        unfolding member
+        member-failed a = rw p (rw q (rw (le-ltb _ _ t) (rw a)))
+
+        module _ {link : ℕ} {s3 : State} {w3 : World} (a : expr r true s2 w2 ≡ done s3 w3 link) where
+          pub member-open : {x : Stop} → expect (r .sheet) kind.CloseBracket s3 w3 ≡ failed x → member r which s w ≡ failed x
+          unfolding member
+          member-open b = rw p (rw q (rw (le-ltb _ _ t) (rw a (rw b))))
+
+          pub member-on : {s4 : State} {w4 : World} → expect (r .sheet) kind.CloseBracket s3 w3 ≡ done s4 w4 tt → member r which s w ≡ done s4 w4 link
+          unfolding member
+          member-on b = rw p (rw q (rw (le-ltb _ _ t) (rw a (rw b))))
+
+module _ (r : Inner) (from : ℕ) where
+  -- a member, where one stands here
+  module _ (x : Expr) (s : State) (w : World) where
+    pub access-failed : {y : Stop} → eatRange (r .sheet) kind.Question s w ≡ failed y → access r from x s w ≡ failed y
+    unfolding access
+    access-failed p = rw p
+
+    module _ {safe : Ranged} {s1 : State} {w1 : World} (p : eatRange (r .sheet) kind.Question s w ≡ done s1 w1 safe) where
+      pub access-full : {y : Stop} → pick (r .sheet) memberChain s1 w1 ≡ failed y → access r from x s w ≡ failed y
+      unfolding access
+      access-full q = rw p (rw q)
+
+      module _ {which : ℕ} {s2 : State} {w2 : World} (q : pick (r .sheet) memberChain s1 w1 ≡ done s2 w2 which) where
+        pub access-none : 2 < which → access r from x s w ≡ noMember (r .sheet) safe x s2 w2
+        unfolding access
+        access-none t = rw p (rw q (rw (lt-ltb _ _ t)))
+
+        module _ (t : which ≤ 2) where
+          pub access-lost : {y : Stop} → member r which s2 w2 ≡ failed y → access r from x s w ≡ failed y
+          unfolding access
+          access-lost a = rw p (rw q (rw (le-ltb _ _ t) (rw a)))
+
+          pub access-on : {link : ℕ} {s3 : State} {w3 : World} → member r which s2 w2 ≡ done s3 w3 link → access r from x s w ≡ memberRecord from safe which x link s3 w3
+          unfolding access
+          access-on a = rw p (rw q (rw (le-ltb _ _ t) (rw a)))
+
+  module _ (lambda : Bool) (x : Expr) (s : State) (w : World) where
+    -- a call from behind its opening parenthesis on
+    module _ {callee : ℕ} (l : callee ≡ linkOf x) where
+      pub call-failed : {y : Stop} → itemsOf r 0 (rowOf callee) s w ≡ failed y → call r from lambda x s w ≡ failed y
+      unfolding call
+      call-failed p = rw (← l) (rw p)
+
+      module _ {i : Items} {s1 : State} {w1 : World} (p : itemsOf r 0 (rowOf callee) s w ≡ done s1 w1 i) where
+        pub call-full : {y : Stop} → braced (r .sheet) lambda s1 w1 ≡ failed y → call r from lambda x s w ≡ failed y
+        unfolding call
+        call-full q = rw (← l) (rw p (rw q))
+
+        pub call-bare : {s2 : State} {w2 : World} → braced (r .sheet) lambda s1 w1 ≡ done s2 w2 false → call r from lambda x s w ≡ callRecord from (i .kids) 0 s2 w2
+        unfolding call
+        call-bare q = rw (← l) (rw p (rw q))
+
+        module _ {s2 : State} {w2 : World} (q : braced (r .sheet) lambda s1 w1 ≡ done s2 w2 true) where
+          pub call-lost : {y : Stop} → block r node.Closure s2 w2 ≡ failed y → call r from lambda x s w ≡ failed y
+          unfolding call
+          call-lost a = rw (← l) (rw p (rw q (rw a)))
+
+          pub call-on : {closure : ℕ} {s3 : State} {w3 : World} → block r node.Closure s2 w2 ≡ done s3 w3 closure → call r from lambda x s w ≡ callRecord from (i .kids) closure s3 w3
+          unfolding call
+          call-on a = rw (← l) (rw p (rw q (rw a)))
+
+    -- one call or member more
+    pub suffix-failed : {y : Stop} → eat (r .sheet) kind.OpenParen s w ≡ failed y → postfixTurn r from lambda x s w ≡ failed y
+    unfolding postfixTurn
+    suffix-failed p = rw p
+
+    pub suffix-call : {s1 : State} {w1 : World} → eat (r .sheet) kind.OpenParen s w ≡ done s1 w1 true → postfixTurn r from lambda x s w ≡ call r from lambda x s1 w1
+    unfolding postfixTurn
+    suffix-call p = rw p
+
+    module _ {s1 : State} {w1 : World} (p : eat (r .sheet) kind.OpenParen s w ≡ done s1 w1 false) where
+      pub suffix-full : {y : Stop} → braced (r .sheet) lambda s1 w1 ≡ failed y → postfixTurn r from lambda x s w ≡ failed y
+      unfolding postfixTurn
+      suffix-full q = rw p (rw q)
+
+      pub suffix-access : {s2 : State} {w2 : World} → braced (r .sheet) lambda s1 w1 ≡ done s2 w2 false → postfixTurn r from lambda x s w ≡ access r from x s2 w2
+      unfolding postfixTurn
+      suffix-access q = rw p (rw q)
+
+      module _ {s2 : State} {w2 : World} (q : braced (r .sheet) lambda s1 w1 ≡ done s2 w2 true) where
+        pub suffix-lost : {y : Stop} → block r node.Closure s2 w2 ≡ failed y → postfixTurn r from lambda x s w ≡ failed y
+        unfolding postfixTurn
+        suffix-lost a = rw p (rw q (rw a))
+
+        pub suffix-lambda : {callee closure : ℕ} {s3 : State} {w3 : World} → callee ≡ linkOf x → block r node.Closure s2 w2 ≡ done s3 w3 closure → postfixTurn r from lambda x s w ≡ callRecord from (rowOf callee) closure s3 w3
+        unfolding postfixTurn
+        suffix-lambda l a = rw p (rw q (rw (a, l)))

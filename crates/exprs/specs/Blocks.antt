@@ -1,0 +1,28 @@
+-- Blocks: parse_block and parse_expr_and_block.
+use Prim.Native.Nat.{ℕ}
+use mathlib.Core.Bool.{true, false}
+use Rattle.kinds.specs.Number as kind
+use Rattle.cursor.specs.declared.Kids.{Kids}
+use Rattle.cursor.specs.Rule.{World, Out, Rule, _>>=_, _>>_, give}
+use Rattle.cursor.specs.Checks.{expect}
+use Rattle.cursor.specs.Records.{add}
+use Rattle.types.specs.Items.{start}
+use Rattle.exprs.specs.Inner.{Inner, expr}
+use Rattle.parts.specs.Records.{blockRecord}
+
+module _ (r : Inner) where
+  -- parse_block; perhaps with a record of another kind and of the same range over it: the Closure of a trailing lambda, the Expr of an else block
+  unfoldable pub block : ℕ → Rule ℕ
+  block wrap = do
+    expect (r .sheet) kind.OpenBrace
+    from ← start (r .sheet)
+    row ← r .body kind.CloseBrace
+    blockRecord from wrap from row
+
+  -- parse_expr_and_block: no trailing lambda is taken; both join a row
+  unfoldable pub andBlock : Kids → Rule Kids
+  andBlock kids = do
+    link ← expr r false
+    body ← block 0
+    one ← add kids link
+    add one body

@@ -1,0 +1,79 @@
+-- Lists of items, and what `{` opens where an expression may begin: parse_items_until, parse_table_key_and_colon, parse_table_property.
+use Prim.Native.Nat.{ℕ}
+use mathlib.Core.Bool.{Bool, true, false}
+use lib.Dec.{eqb}
+use Rattle.kinds.specs.Number as kind
+use Rattle.cursor.specs.declared.Kids.{Kids}
+use Rattle.cursor.specs.Node as node
+use Rattle.cursor.specs.Sheet.{Sheet}
+use Rattle.cursor.specs.Rule.{World, Out, Rule, _>>=_, _>>_, give, ifSo, Next, more, stop, Turn, iterate}
+use Rattle.cursor.specs.Tokens.{bump, eatEol}
+use Rattle.cursor.specs.Checks.{eat, expect}
+use Rattle.cursor.specs.Attempts.{attempt}
+use Rattle.types.specs.declared.items.Items.{Items}
+use Rattle.types.specs.Items.{start, close, pair, so, oneItem}
+use Rattle.parts.specs.Values.{rowWith}
+use Rattle.parts.specs.Until.{itemsUntil}
+use Rattle.exprs.specs.Inner.{Inner, expr}
+use Rattle.parts.specs.When.{when}
+use Rattle.parts.specs.Records.{listRecord, blockRecord}
+use Rattle.parts.specs.Steps.{itemsEnd, litKey, parenKey}
+
+module _ (r : Inner) where
+  -- parse_table_key_and_colon: a literal or an expression in parentheses
+  unfoldable pub key : Rule ℕ
+  key = do
+    from ← start (r .sheet)
+    opened ← eat (r .sheet) kind.OpenParen
+    ifSo (do
+      link ← expr r true
+      parenKey (r .sheet) from link)
+        (litKey (r .sheet)) opened
+
+  -- parse_table_property
+  unfoldable pub property : Rule ℕ
+  property = do
+    from ← start (r .sheet)
+    name ← key
+    value ← expr r true
+    pair node.TableProperty from name value
+
+  -- the item rules by number: 0 an argument, 1 an element, 2 a property
+  unfoldable pub item : ℕ → Rule ℕ
+  item k = when (eqb k 2) property (expr r true)
+
+  unfoldable pub itemsOf : ℕ → Kids → Rule Items
+  itemsOf k kids = itemsUntil (r .sheet) (item k) (itemsEnd k) kids
+
+  -- a table from behind its first key and colon on
+  unfoldable pub table : ℕ → ℕ → ℕ → Rule ℕ
+  table from inside first = do
+    value ← expr r true
+    link ← pair node.TableProperty inside first value
+    eatEol (r .sheet)
+    closed ← eat (r .sheet) kind.CloseBrace
+    ifSo (close node.Table from 0 0 1 link)
+        (do
+          expect (r .sheet) kind.Comma
+          i ← itemsOf 2 (rowWith link)
+          listRecord node.Table from i) closed
+
+  -- a block where an expression may begin: its record starts behind the brace and Eols, the expression's at the brace
+  unfoldable pub braceBlock : ℕ → ℕ → Rule ℕ
+  braceBlock from inside = do
+    row ← r .body kind.CloseBrace
+    blockRecord inside node.ExprBlock from row
+
+  -- a key and its colon are attempted; where there is none it is a block
+  unfoldable pub tableOrBlock : ℕ → Rule ℕ
+  tableOrBlock from = do
+    inside ← start (r .sheet)
+    attempt key (table from inside) (braceBlock from inside)
+
+  -- `{` where an expression may begin: `{`, Eols, `}` is a table
+  unfoldable pub brace : ℕ → Rule ℕ
+  brace from = do
+    bump (r .sheet)
+    eatEol (r .sheet)
+    closed ← eat (r .sheet) kind.CloseBrace
+    ifSo (close node.Table from 0 0 0 0) (tableOrBlock from) closed
