@@ -9,14 +9,14 @@ use Rattle.parts.specs.Answers.{asParsed, asRowed}
 use Rattle.parts.proofs.Told.{parsed, rowed}
 use Rattle.parts.proofs.Unique.{OneEnd, rule}
 use Rattle.exprs.proofs.exprs.exprs.Reads as exprs
-use Rattle.exprs.proofs.exprs.precedence.Reads as precedence
+use Rattle.exprs.proofs.exprs.prec.Reads as prec
 use Rattle.exprs.proofs.program.program.Reads as program
 
 pub one-exprs : OneEnd exprs.Post asRowed (λ x. world (x .1 .1 .0 .now) (x .1 .1 .1 .0 .now) (x .1 .1 .1 .1 .0 .now) (x .1 .1 .1 .1 .1 .0 .now))
 one-exprs = rule rowed (λ _ _ _ _ p. p)
 
-pub one-precedence : OneEnd precedence.Post asParsed (λ x. world (x .1 .1 .0 .now) (x .1 .1 .1 .0 .now) (x .1 .1 .1 .1 .0 .now) (x .1 .1 .1 .1 .1 .0 .now))
-one-precedence = rule parsed (λ _ _ _ _ p. p)
+pub one-prec : OneEnd prec.Post asParsed (λ x. world (x .1 .1 .0 .now) (x .1 .1 .1 .0 .now) (x .1 .1 .1 .1 .0 .now) (x .1 .1 .1 .1 .1 .0 .now))
+one-prec = rule parsed (λ _ _ _ _ p. p)
 
 pub one-program : OneEnd program.Post asBuilt (λ x. world (x .1 .1 .0 .now) (x .1 .1 .1 .0 .now) (x .1 .1 .1 .1 .0 .now) (x .1 .1 .1 .1 .1 .0 .now))
 one-program = rule built (λ _ _ _ _ p. p)

@@ -13,7 +13,7 @@ ghost use Rattle.exprs.specs.Blocks.{block, andBlock};
 ghost use Rattle.exprs.specs.Functions.{function, fnStmt};
 ghost use Rattle.exprs.specs.Precedence.{infixTurn, unary, tried, handler};
 ghost use Rattle.exprs.specs.Primary.{postfixTurn, call, access, member};
-ghost use Rattle.exprs.specs.Tables.{key, property, item, itemsOf, table, brace};
+ghost use Rattle.exprs.specs.Tables.{key, item, itemsOf, table, brace};
 ghost use Rattle.exprs.specs.Atoms.{group, anon, ifElse, cases, matchCase, loops, form, atom, primary};
 ghost use Rattle.exprs.specs.Statements.{right, set, lefts, rights, multi, typed, assign, glo, plain, stmt};
 use cursor::Built;
@@ -237,7 +237,7 @@ fn stmt(
     };
     let from = start_range(tokens, s1);
     let nowhere = Ranged::Nowhere;
-    let tried = fn_stmt(
+    let tried = def(
         text,
         tokens,
         nodes,
@@ -301,7 +301,7 @@ fn plain(
 }
 
 // Rust's parse_function_stmt, also after `glo`.
-fn fn_stmt(
+fn def(
     text: &[u8],
     tokens: &[u32],
     nodes: &mut [u32],
@@ -331,7 +331,7 @@ fn fn_stmt(
         }
         Built::Failed(f) => return Built::Failed(f),
     }
-    let read = function(
+    let read = func(
         text,
         tokens,
         nodes,
@@ -350,7 +350,7 @@ fn fn_stmt(
 }
 
 // Rust's parse_function, and the same of a closure.
-fn function(
+fn func(
     text: &[u8],
     tokens: &[u32],
     nodes: &mut [u32],
@@ -407,7 +407,7 @@ fn expr(
 ) -> Built
     ensures { λ r. ⌜ asBuilt r (world (now (nodes .exit)) (now (errors .exit)) (now (wanted .exit)) (now (live .exit))) ≡ expr (under (now (text .entry)) (now (tokens .entry)) left) lambda s (world (now (nodes .entry)) (now (errors .entry)) (now (wanted .entry)) (now (live .entry))) ⌝ }
 {
-    let read = precedence(
+    let read = prec(
         text,
         tokens,
         nodes,
@@ -426,7 +426,7 @@ fn expr(
 }
 
 // Rust's parse_expr_and_block: both join a row.
-fn and_block(
+fn head(
     text: &[u8],
     tokens: &[u32],
     nodes: &mut [u32],
@@ -465,7 +465,7 @@ fn and_block(
 }
 
 // Rust's parse_expr_precedence. A level is used up on each entry.
-pub fn precedence(
+pub fn prec(
     text: &[u8],
     tokens: &[u32],
     nodes: &mut [u32],
@@ -500,7 +500,7 @@ pub fn precedence(
         Parsed::Failed(f) => return Parsed::Failed(f),
     }
     loop {
-        let turned = infix(
+        let turned = op(
             text,
             tokens,
             nodes,
@@ -526,7 +526,7 @@ pub fn precedence(
 }
 
 // One operator with its right operand; `is` with its type word.
-fn infix(
+fn op(
     text: &[u8],
     tokens: &[u32],
     nodes: &mut [u32],
@@ -561,7 +561,7 @@ fn infix(
     if kind == kinds::IS as u32 {
         return type_check(text, tokens, nodes, limits, s1, from, x);
     }
-    let right = precedence(
+    let right = prec(
         text,
         tokens,
         nodes,
@@ -628,7 +628,7 @@ fn unary(
         return tried(text, tokens, nodes, errors, wanted, live, left, s1, lambda);
     }
     if 2 < which {
-        return primary(text, tokens, nodes, errors, wanted, live, left, s1, lambda);
+        return prim(text, tokens, nodes, errors, wanted, live, left, s1, lambda);
     }
     let kind = current_kind(tokens, s1);
     let taken = bump(tokens, limits, s1);
@@ -636,7 +636,7 @@ fn unary(
         Moved::On(t) => t,
         Moved::Failed(f) => return Parsed::Failed(f),
     };
-    let read = primary(text, tokens, nodes, errors, wanted, live, left, s2, lambda);
+    let read = prim(text, tokens, nodes, errors, wanted, live, left, s2, lambda);
     let mut s3: State;
     let mut x: Expr;
     match read {
@@ -674,7 +674,7 @@ fn tried(
         Moved::On(t) => t,
         Moved::Failed(f) => return Parsed::Failed(f),
     };
-    let read = primary(text, tokens, nodes, errors, wanted, live, left, s1, lambda);
+    let read = prim(text, tokens, nodes, errors, wanted, live, left, s1, lambda);
     let mut s2: State;
     let mut x: Expr;
     match read {
@@ -769,7 +769,7 @@ fn catch(
 }
 
 // Rust's parse_expr_primary.
-fn primary(
+fn prim(
     text: &[u8],
     tokens: &[u32],
     nodes: &mut [u32],
@@ -794,7 +794,7 @@ fn primary(
         Parsed::Failed(f) => return Parsed::Failed(f),
     }
     loop {
-        let turned = suffix(
+        let turned = post(
             text,
             tokens,
             nodes,
@@ -819,7 +819,7 @@ fn primary(
 }
 
 // One call or member more, where one stands here.
-fn suffix(
+fn post(
     text: &[u8],
     tokens: &[u32],
     nodes: &mut [u32],
@@ -856,7 +856,7 @@ fn suffix(
     let trailing = braced(tokens, live, s1, lambda);
     let s2 = match trailing {
         Test::Yes(t) => t,
-        Test::No(t) => return chain(text, tokens, nodes, errors, wanted, live, left, t, from, x),
+        Test::No(t) => return path(text, tokens, nodes, errors, wanted, live, left, t, from, x),
         Test::Failed(f) => return Chained::Failed(f),
     };
     let link = link_of(x);
@@ -950,7 +950,7 @@ fn call(
 }
 
 // A member, where one stands here; a `?` needs one.
-fn chain(
+fn path(
     text: &[u8],
     tokens: &[u32],
     nodes: &mut [u32],
@@ -989,7 +989,7 @@ fn chain(
     if 2 < which {
         return no_member(tokens, s2, x, safe);
     }
-    let read = member(text, tokens, nodes, errors, wanted, live, left, s2, which);
+    let read = field(text, tokens, nodes, errors, wanted, live, left, s2, which);
     match read {
         Built::Node(t, link) => member_record(nodes, t, from, x, safe, which, link),
         Built::Failed(f) => Chained::Failed(f),
@@ -997,7 +997,7 @@ fn chain(
 }
 
 // The macro member_expr: what stands behind the opening token; no link for `#`.
-fn member(
+fn field(
     text: &[u8],
     tokens: &[u32],
     nodes: &mut [u32],
@@ -1166,10 +1166,10 @@ fn form(
         );
     }
     if which == 7 {
-        return branch(text, tokens, nodes, errors, wanted, live, left, s, from);
+        return cond(text, tokens, nodes, errors, wanted, live, left, s, from);
     }
     if which == 8 {
-        return cases(text, tokens, nodes, errors, wanted, live, left, s, from);
+        return arms(text, tokens, nodes, errors, wanted, live, left, s, from);
     }
     if which < 12 {
         return loops(
@@ -1278,7 +1278,7 @@ fn anon(
 {
     let limits = left.limits;
     if which == 5 {
-        let shut = function(
+        let shut = func(
             text,
             tokens,
             nodes,
@@ -1298,7 +1298,7 @@ fn anon(
         Moved::Failed(f) => return Built::Failed(f),
     };
     if which == 4 {
-        let plain = function(
+        let plain = func(
             text,
             tokens,
             nodes,
@@ -1327,7 +1327,7 @@ fn anon(
 }
 
 // `if` with its test, its block and perhaps `else` with another `if` or a block.
-fn branch(
+fn cond(
     text: &[u8],
     tokens: &[u32],
     nodes: &mut [u32],
@@ -1346,7 +1346,7 @@ fn branch(
         Moved::On(t) => t,
         Moved::Failed(f) => return Built::Failed(f),
     };
-    let tested = and_block(text, tokens, nodes, errors, wanted, live, left, s1, NO_KIDS);
+    let tested = head(text, tokens, nodes, errors, wanted, live, left, s1, NO_KIDS);
     let mut s2: State;
     let mut kids: Kids;
     match tested {
@@ -1387,7 +1387,7 @@ fn branch(
 }
 
 // `match` with its value and its cases. An Eol before its closing brace is not taken where there is no case.
-fn cases(
+fn arms(
     text: &[u8],
     tokens: &[u32],
     nodes: &mut [u32],
@@ -1544,7 +1544,7 @@ fn loops(
         }
         Rowed::Failed(f) => return Built::Failed(f),
     }
-    let read = and_block(text, tokens, nodes, errors, wanted, live, left, s2, names);
+    let read = head(text, tokens, nodes, errors, wanted, live, left, s2, names);
     match read {
         Rowed::Row(t, kids) => round_record(nodes, t, from, which, names.count, kids),
         Rowed::Failed(f) => Built::Failed(f),
@@ -1723,8 +1723,8 @@ fn key(
     }
 }
 
-// Rust's parse_table_property.
-fn property(
+// One item, by its rule; a property is Rust's parse_table_property.
+fn item(
     text: &[u8],
     tokens: &[u32],
     nodes: &mut [u32],
@@ -1733,9 +1733,13 @@ fn property(
     live: &mut [u8; 1024],
     left: Left,
     s: State,
+    rule: u32,
 ) -> Built
-    ensures { λ r. ⌜ asBuilt r (world (now (nodes .exit)) (now (errors .exit)) (now (wanted .exit)) (now (live .exit))) ≡ property (under (now (text .entry)) (now (tokens .entry)) left) s (world (now (nodes .entry)) (now (errors .entry)) (now (wanted .entry)) (now (live .entry))) ⌝ }
+    ensures { λ r. ⌜ asBuilt r (world (now (nodes .exit)) (now (errors .exit)) (now (wanted .exit)) (now (live .exit))) ≡ item (under (now (text .entry)) (now (tokens .entry)) left) rule s (world (now (nodes .entry)) (now (errors .entry)) (now (wanted .entry)) (now (live .entry))) ⌝ }
 {
+    if rule != PROPERTIES {
+        return expr(text, tokens, nodes, errors, wanted, live, left, s, true);
+    }
     let from = start_range(tokens, s);
     let keyed = key(text, tokens, nodes, errors, wanted, live, left, s);
     let mut s1: State;
@@ -1752,26 +1756,6 @@ fn property(
         Built::Node(t, value) => pair(nodes, t, nodes::TABLE_PROPERTY, from, name, value),
         Built::Failed(f) => Built::Failed(f),
     }
-}
-
-// One item, by its rule.
-fn item(
-    text: &[u8],
-    tokens: &[u32],
-    nodes: &mut [u32],
-    errors: &mut [u32],
-    wanted: &mut [u8],
-    live: &mut [u8; 1024],
-    left: Left,
-    s: State,
-    rule: u32,
-) -> Built
-    ensures { λ r. ⌜ asBuilt r (world (now (nodes .exit)) (now (errors .exit)) (now (wanted .exit)) (now (live .exit))) ≡ item (under (now (text .entry)) (now (tokens .entry)) left) rule s (world (now (nodes .entry)) (now (errors .entry)) (now (wanted .entry)) (now (live .entry))) ⌝ }
-{
-    if rule == PROPERTIES {
-        return property(text, tokens, nodes, errors, wanted, live, left, s);
-    }
-    expr(text, tokens, nodes, errors, wanted, live, left, s, true)
 }
 
 // Rust's parse_items_until, for the item rules of expressions.
@@ -1875,7 +1859,7 @@ fn glo(
         Picked::Failed(f) => return Built::Failed(f),
     }
     if which == 0 {
-        return fn_stmt(
+        return def(
             text,
             tokens,
             nodes,
@@ -1903,7 +1887,7 @@ fn glo(
     }
     let set = expect(tokens, live, limits, s3, kinds::ASSIGN);
     match set {
-        Moved::On(t) => right(
+        Moved::On(t) => rhs(
             text,
             tokens,
             nodes,
@@ -1935,7 +1919,7 @@ fn assign(
 ) -> Built
     ensures { λ r. ⌜ asBuilt r (world (now (nodes .exit)) (now (errors .exit)) (now (wanted .exit)) (now (live .exit))) ≡ assign (under (now (text .entry)) (now (tokens .entry)) left) from s (world (now (nodes .entry)) (now (errors .entry)) (now (wanted .entry)) (now (live .entry))) ⌝ }
 {
-    let read = precedence(text, tokens, nodes, errors, wanted, live, left, s, 1, true);
+    let read = prec(text, tokens, nodes, errors, wanted, live, left, s, 1, true);
     let mut s1: State;
     let mut x: Expr;
     match read {
@@ -1966,7 +1950,7 @@ fn assign(
         Picked::Failed(f) => return Built::Failed(f),
     }
     if which == 0 {
-        return multi(text, tokens, nodes, errors, wanted, live, left, s2, from, x);
+        return many(text, tokens, nodes, errors, wanted, live, left, s2, from, x);
     }
     if which == 1 {
         return typed(text, tokens, nodes, errors, wanted, live, left, s2, from, x);
@@ -2017,7 +2001,7 @@ fn set(
         Moved::Failed(f) => return Built::Failed(f),
     };
     if which == 2 {
-        return right(
+        return rhs(
             text,
             tokens,
             nodes,
@@ -2032,7 +2016,7 @@ fn set(
             link,
         );
     }
-    right(
+    rhs(
         text,
         tokens,
         nodes,
@@ -2049,7 +2033,7 @@ fn set(
 }
 
 // The right side of an assignment, behind its sign.
-fn right(
+fn rhs(
     text: &[u8],
     tokens: &[u32],
     nodes: &mut [u32],
@@ -2119,7 +2103,7 @@ fn typed(
     }
     let set = expect(tokens, live, limits, s3, kinds::ASSIGN);
     match set {
-        Moved::On(t) => right(
+        Moved::On(t) => rhs(
             text,
             tokens,
             nodes,
@@ -2138,7 +2122,7 @@ fn typed(
 }
 
 // An assignment to several, of one value or of as many.
-fn multi(
+fn many(
     text: &[u8],
     tokens: &[u32],
     nodes: &mut [u32],
@@ -2163,7 +2147,7 @@ fn multi(
         last: one,
         count: 1,
     };
-    let listed = lefts(text, tokens, nodes, errors, wanted, live, left, s, first);
+    let listed = lhs(text, tokens, nodes, errors, wanted, live, left, s, first);
     let mut s1: State;
     let mut kids: Kids;
     match listed {
@@ -2190,7 +2174,7 @@ fn multi(
     }
     let several = check(tokens, live, s3, kinds::COMMA);
     match several {
-        Test::Yes(t) => rights(
+        Test::Yes(t) => each(
             text,
             tokens,
             nodes,
@@ -2209,7 +2193,7 @@ fn multi(
 }
 
 // The further left sides, each behind its comma.
-fn lefts(
+fn lhs(
     text: &[u8],
     tokens: &[u32],
     nodes: &mut [u32],
@@ -2237,7 +2221,7 @@ fn lefts(
             Eaten::No(u) => return Rowed::Row(u, kids),
             Eaten::Failed(f) => return Rowed::Failed(f),
         }
-        let read = precedence(text, tokens, nodes, errors, wanted, live, left, s1, 1, true);
+        let read = prec(text, tokens, nodes, errors, wanted, live, left, s1, 1, true);
         let mut s2: State;
         let mut x: Expr;
         match read {
@@ -2260,7 +2244,7 @@ fn lefts(
 }
 
 // As many right sides as left ones, each behind its comma but the first.
-fn rights(
+fn each(
     text: &[u8],
     tokens: &[u32],
     nodes: &mut [u32],

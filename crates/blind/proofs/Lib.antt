@@ -1,0 +1,12 @@
+pub mod Blind
+pub mod Cursor
+pub mod Items
+pub mod Types
+pub mod Parts
+pub mod Recovery
+pub mod Handed
+pub mod Exprs
+pub mod Atoms
+pub mod Stmts
+pub mod Program
+pub mod Sure

@@ -1,0 +1,124 @@
+-- The lists, imports, effects and recovery of parts are blind to what the lent buffers held.
+use mathlib.Core.List.{[], _∷_}
+use Prim.Native.Nat.{ℕ}
+use native.Mathlib.Nat.{le-refl}
+use native.Mathlib.Omega.{arith}
+use lib.Dec.{ltb, eqb}
+use Rattle.kinds.specs.Number as kind
+use Rattle.cursor.specs.declared.State.{State}
+use Rattle.cursor.specs.declared.Kids.{Kids}
+use Rattle.cursor.specs.declared.Ranged.{Ranged}
+use Rattle.cursor.specs.Node as node
+use Rattle.cursor.specs.Sheet.{Sheet}
+use Rattle.cursor.specs.Rule.{Stop, Out, failed, Rule}
+use Rattle.cursor.specs.Tokens.{rewind}
+use Rattle.cursor.specs.Checks.{unexpectedAt}
+use Rattle.cursor.specs.Records.{noKids}
+use Rattle.cursor.specs.Attempts.{unbuilt}
+use Rattle.cursor.proofs.Keeps.{Mark, mark, Stands}
+use Rattle.types.specs.declared.items.Items.{Items}
+use Rattle.types.specs.Items.{so}
+use Rattle.parts.specs.declared.imports.Imported.{Imported}
+use Rattle.parts.specs.Answers.{onPath}
+use Rattle.parts.specs.Values.{uncounted}
+use Rattle.parts.specs.Until.{untilTurn, itemsUntil}
+use Rattle.parts.specs.Imports.{endChain, tailChain, importItem, importItems, importEnd, importTail, pathTurn, importStmt}
+use Rattle.parts.specs.Effects.{effectRecord, effectStmt}
+use Rattle.parts.specs.Recovery.{undo, skipTurn, skip, skipped, recovering, logHere, lineEnd, afterStmt}
+use Rattle.blind.proofs.Blind.{twin-below, Twins, well, ill, cut, either, lowered, Blind, gives, ifs, binds, thens, loops}
+use Rattle.blind.proofs.Cursor.{bump-blind, check-blind, eat-blind, expect-blind, unexpected-blind, pick-blind, eat-eol-blind, add-blind, log-blind, recovers}
+use Rattle.blind.proofs.Items.{start-blind, close-blind, add-some-blind, one-item-blind, ident-blind}
+use Rattle.blind.proofs.Types.{params-blind, returns-blind}
+
+-- lists of items
+module _ (e : Sheet) (item : Rule ℕ) (h : Blind item) (end : ℕ) where
+  until-turn-blind : (i : Items) → Blind (untilTurn e item end i)
+  unfolding untilTurn
+  until-turn-blind i = binds (eat-blind e end) (λ ended. ifs ended gives (one-item-blind e item h end i))
+
+  pub items-until-blind : (kids : Kids) → Blind (itemsUntil e item end kids)
+  unfolding itemsUntil
+  items-until-blind kids = thens (eat-eol-blind e) (loops until-turn-blind e (so kids))
+
+-- imports
+module _ (e : Sheet) where
+  import-item-blind : Blind (importItem e)
+  unfolding importItem
+  import-item-blind =
+      binds (start-blind e) (λ from. binds (ident-blind e) (λ name. binds (eat-blind e kind.As) (λ other. ifs other
+      (binds (ident-blind e) (λ alias. binds (add-blind noKids name) (λ one. binds (add-blind one alias) (λ two. close-blind node.ImportItem from 0 0 _ (two .first)))))
+      (close-blind node.ImportItem from 0 0 0 name))))
+
+  import-items-blind : (kids : Kids) → Blind (importItems e kids)
+  unfolding importItems
+  import-items-blind kids = items-until-blind e (importItem e) import-item-blind kind.CloseBrace kids
+
+  import-end-blind : (kids : Kids) → Blind (importEnd e kids)
+  unfolding importEnd
+  import-end-blind kids = binds (pick-blind e endChain 0) (λ which. ifs (eqb which 0) gives (ifs (ltb 1 which) (unexpected-blind e) (thens (bump-blind e) (binds (ident-blind e) (λ alias. binds (add-blind kids alias) (λ longer. gives))))))
+
+  import-tail-blind : (kids : Kids) → Blind (importTail e kids)
+  unfolding importTail
+  import-tail-blind kids = binds (pick-blind e tailChain 0) (λ which. ifs (ltb 1 which) (unexpected-blind e) (thens (bump-blind e) (ifs (eqb which 1) gives (binds (import-items-blind (uncounted kids)) (λ i. gives)))))
+
+  path-turn-blind : (i : Imported) → Blind (pathTurn e i)
+  unfolding pathTurn
+  path-turn-blind i =
+      binds (ident-blind e) (λ name. binds (add-blind (i .kids) name) (λ longer. binds (eat-blind e kind.DoubleColon) (λ deeper. ifs deeper
+      (binds (check-blind e kind.Ident) (λ another. ifs another gives (import-tail-blind longer)))
+      (import-end-blind longer))))
+
+  pub import-stmt-blind : (from : ℕ) → Blind (importStmt e from)
+  unfolding importStmt
+  import-stmt-blind from = thens (bump-blind e) (binds (loops path-turn-blind e (onPath noKids)) (λ i. close-blind node.Import from 0 0 _ (i .kids .first)))
+
+-- effects
+effect-record-blind : (from inside : ℕ) (glo : Ranged) (name : ℕ) (i : Items) (link : ℕ) → Blind (effectRecord from inside glo name i link)
+unfolding effectRecord
+effect-record-blind from inside glo name i link =
+    binds (add-some-blind (i .kids) link) (λ kids. binds (close-blind node.Effect inside 0 0 _ (kids .first)) (λ effect. binds (add-blind noKids name) (λ one. binds (add-blind one effect) (λ two. close-blind node.ExprEffect from _ _ _ (two .first)))))
+
+pub effect-stmt-blind : (e : Sheet) (atom : Rule ℕ) → Blind atom → (from : ℕ) (glo : Ranged) → Blind (effectStmt e atom from glo)
+unfolding effectStmt
+effect-stmt-blind e atom h from glo =
+    binds (start-blind e) (λ inside. thens (expect-blind e kind.Effect) (binds (ident-blind e) (λ name. binds (params-blind e atom h noKids) (λ i. binds (returns-blind e atom h) (λ link. effect-record-blind from inside glo name i link)))))
+
+-- recovery; an end that is undone or recovered from is told of from the mark on, and what is left of it under any lower one
+pub undo-twins : {A : Type 0} {m : Mark} (s : State) {x y : Stop} → Stands m s → Twins {A = A} (mark s) (failed x) (failed y) → Twins m (undo s x) (undo s y)
+unfolding rewind
+undo-twins s h (ill {s = s1} g t) = well {s = rewind s s1} (record { nodes = h .nodes; errors = h .errors; wanted = h .wanted }) (twin-below {s1 = s1} (g .nodes) (g .errors) (g .wanted) (omega arith) t)
+undo-twins s h cut = cut
+
+module _ (e : Sheet) where
+  skip-turn-blind : (end : ℕ) (a : Unit) → Blind (skipTurn e end a)
+  unfolding skipTurn
+  skip-turn-blind end a = binds (pick-blind e (kind.Eol ∷ kind.Eof ∷ end ∷ []) 0) (λ which. ifs (ltb which 3) gives (thens (bump-blind e) gives))
+
+  skip-blind : (end : ℕ) → Blind (skip e end)
+  unfolding skip
+  skip-blind end = loops (skip-turn-blind end) e tt
+
+  pub skipped-blind : (end : ℕ) → Blind (skipped e end)
+  unfolding skipped
+  skipped-blind end = thens (skip-blind end) gives
+
+  pub recovering-twins : {m : Mark} (end : ℕ) (s : State) {o p : Out ℕ} → Stands m s → Twins (mark s) o p → Twins m (recovering e end s o) (recovering e end s p)
+  unfolding recovering
+  recovering-twins end s h x = lowered h (either x
+      (λ s1 w1 v1 link g u. well g u)
+      (λ s1 w1 v1 f g u. thens (log-blind f) (skipped-blind end) .ends (mark s) (unbuilt s s1) w1 v1 (record { nodes = le-refl _; errors = g .errors; wanted = g .wanted }) (twin-below (g .nodes) (le-refl _) (le-refl _) (le-refl _) u)))
+
+  log-here-blind : Blind (logHere e)
+  unfolding logHere
+  log-here-blind = record { ends = λ m s w v h t. log-blind (unexpectedAt e s) .ends m s w v h t }
+
+  line-end-blind : Blind (lineEnd e)
+  unfolding lineEnd
+  line-end-blind = recovers (expect-blind e kind.Eol) (λ _. gives) gives
+
+  pub after-stmt-blind : (end : ℕ) (kids : Kids) (link : ℕ) → Blind (afterStmt e end kids link)
+  unfolding afterStmt
+  after-stmt-blind end kids link =
+      binds (eat-blind e end) (λ closed. ifs closed (binds (add-some-blind kids link) (λ all. gives)) (binds (check-blind e kind.Eof) (λ over. ifs over
+      (thens log-here-blind (binds (add-some-blind kids link) (λ all. gives)))
+      (thens line-end-blind (thens (eat-eol-blind e) (binds (add-some-blind kids link) (λ longer. gives)))))))

@@ -1,0 +1,4 @@
+pub mod Blank
+pub mod Outcome
+pub mod Finish
+pub mod Parse
