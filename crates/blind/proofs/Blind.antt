@@ -2,18 +2,17 @@
 -- the same state and answer, and leaves buffers that agree below the counts of that state. Buffers are written and never read but for their
 -- lengths, and the live list only below its length. The lemmas follow the ways in which rules are put together, so that the proof for a rule
 -- is one term that mirrors its text.
-use mathlib.Core.Path.{_≡_, refl, sym}
+use mathlib.Core.Path.{_≡_, sym}
 use mathlib.Core.List.{List}
 use mathlib.Core.Bool.{Bool, true, false, false≢true}
-use Prim.Native.Nat.{ℕ, zero, suc, _*_, _<_, _≤_, min}
+use Prim.Native.Nat.{ℕ, zero, suc, _*_, _<_, _≤_}
 use native.Mathlib.Nat.{le-refl, le-trans}
 use native.Mathlib.Omega.{arith}
-use lib.ListN.{length}
 use Rattle.cursor.specs.declared.State.{State}
 use Rattle.cursor.specs.declared.Fault.{Fault}
 use Rattle.cursor.specs.Layout.{nodeWords, errorWords}
 use Rattle.cursor.specs.Sheet.{Sheet}
-use Rattle.cursor.specs.Rule.{World, Stop, fault, refused, Out, done, failed, bind, orElse, Rule, _>>=_, _>>_, give, refuse, ifSo, Next, more, stop, Turn, next, turns, iterate}
+use Rattle.cursor.specs.Rule.{World, fault, refused, Out, done, failed, bind, orElse, Rule, _>>=_, _>>_, give, refuse, ifSo, Next, more, stop, Turn, next, turns, iterate}
 use Rattle.cursor.specs.Tokens.{rewind}
 use Rattle.cursor.specs.Attempts.{attempt}
 use Rattle.cursor.proofs.Keeps.{Mark, mark, Stands, mark-stands, Same}
@@ -32,11 +31,19 @@ same-below h a = record { long = a .long; below = λ i p. a .below i (omega arit
 pub twin-below : {s s1 : State} {w v : World} → s .nodes ≤ s1 .nodes → s .errors ≤ s1 .errors → s .wanted ≤ s1 .wanted → s .live ≤ s1 .live → Twin s1 w v → Twin s w v
 twin-below n e x l t = record { nodes = same-below (omega arith) (t .nodes); errors = same-below (omega arith) (t .errors); expected = same-below x (t .expected); live = same-below l (t .live) }
 
--- two ends that are the same but for what the buffers hold past the counts; the counts are not below a mark
+-- the numbers of the refusals that arise as work goes on
+pub data Refuses : ℕ → Type 0 where
+  no-node : Refuses 7
+  no-error : Refuses 8
+  too-deep : Refuses 9
+  all-spent : Refuses 10
+  too-many-kinds : Refuses 11
+
+-- two ends that are the same but for what the buffers hold past the counts; the counts are not below a mark, and a refusal has its number
 pub data Twins {A : Type 0} (m : Mark) : Out A → Out A → Type 0 where
   well : {s : State} {w v : World} {a : A} → Stands m s → Twin s w v → Twins m (done s w a) (done s v a)
   ill : {s : State} {w v : World} {f : Fault} → Stands m s → Twin s w v → Twins m (failed (fault s w f)) (failed (fault s v f))
-  cut : {n : ℕ} → Twins m (failed (refused n)) (failed (refused n))
+  cut : {n : ℕ} → Refuses n → Twins m (failed (refused n)) (failed (refused n))
 
 pub record Blind {A : Type 0} (r : Rule A) : Type 0 where
   pub ends : (m : Mark) (s : State) (w v : World) → Stands m s → Twin s w v → Twins m (r s w) (r s v)
@@ -48,12 +55,12 @@ module _ {A B : Type 0} {m : Mark} where
   then : {o p : Out A} {k : State → World → A → Out B} → Twins m o p → ((s : State) (w v : World) (a : A) → Stands m s → Twin s w v → Twins m (k s w a) (k s v a)) → Twins m (bind o k) (bind p k)
   then (well h t) f = f _ _ _ _ h t
   then (ill h t) f = ill h t
-  then cut f = cut
+  then (cut p) f = cut p
 
   pub either : {o p : Out A} {k : State → World → A → Out B} {back : State → World → Fault → Out B} → Twins m o p → ((s : State) (w v : World) (a : A) → Stands m s → Twin s w v → Twins m (k s w a) (k s v a)) → ((s : State) (w v : World) (f : Fault) → Stands m s → Twin s w v → Twins m (back s w f) (back s v f)) → Twins m (orElse o k back) (orElse p k back)
   either (well h t) f g = f _ _ _ _ h t
   either (ill h t) f g = g _ _ _ _ h t
-  either cut f g = cut
+  either (cut p) f g = cut p
 
 -- done with the counts as they were, and a live list that is not longer
 pub on : {A : Type 0} {m : Mark} {s s1 : State} {w v : World} {a : A} → s1 .nodes ≡ s .nodes → s1 .errors ≡ s .errors → s1 .wanted ≡ s .wanted → s1 .live ≤ s .live → Stands m s → Twin s w v → Twins m (done s1 w a) (done s1 v a)
@@ -63,14 +70,14 @@ on {s1 = s1} n e x l h t = well {s = s1} (record { nodes = omega (arith, n, h .n
 pub lowered : {A : Type 0} {m : Mark} {s : State} {o p : Out A} → Stands m s → Twins (mark s) o p → Twins m o p
 lowered h (well g t) = well (stands-trans h g) t
 lowered h (ill g t) = ill (stands-trans h g) t
-lowered h cut = cut
+lowered h (cut p) = cut p
 
 module _ {A : Type 0} where
   pub gives : {a : A} → Blind (give a)
   gives = record { ends = λ m s w v h t. well h t }
 
-  pub refuses : {n : ℕ} → Blind {A = A} (refuse n)
-  refuses = record { ends = λ m s w v h t. cut }
+  pub refuses : {n : ℕ} → Refuses n → Blind {A = A} (refuse n)
+  refuses p = record { ends = λ m s w v h t. cut p }
 
   -- the one rule or the other
   pub ifs : {r q : Rule A} (b : Bool) → Blind r → Blind q → Blind (ifSo r q b)

@@ -3,11 +3,10 @@ use mathlib.Core.Path.{_≡_, refl, sym, ap, _∙_, subst}
 use mathlib.Core.List.{List, [], _∷_}
 use mathlib.Core.Bool.{Bool, true, false}
 use Prim.Native.Nat.{ℕ, zero, suc, _+_, _*_, _/_, _<_, _≤_, min}
-use native.Mathlib.Nat.{le-refl, le-trans}
+use native.Mathlib.Nat.{le-refl}
 use native.Mathlib.Omega.{arith}
 use lib.Dec.{ltb, leb, eqb}
 use lib.ListN.{length, getD, set, length-set}
-use lib.Seq.{getD-set-same, getD-set-other}
 use Rattle.cursor.specs.declared.State.{State}
 use Rattle.cursor.specs.declared.Fault.{Fault}
 use Rattle.cursor.specs.declared.Kids.{Kids}
@@ -21,8 +20,7 @@ use Rattle.cursor.specs.Checks.{liveRoom, want, check, eat, expect, eatRange, u
 use Rattle.cursor.specs.Records.{word32, withNodes, append, write, add, reflag, listLength, writeError, log}
 use Rattle.cursor.specs.Attempts.{unbuilt, recover}
 use Rattle.cursor.proofs.Keeps.{Mark, mark, mark-stands, Stands, Same}
-use Rattle.cursor.proofs.Writes.{put-length}
-use Rattle.blind.proofs.Blind.{Twin, twin-below, same-below, Twins, well, ill, cut, on, Blind, branch, either, lowered, gives, ifs, binds, thens, loops}
+use Rattle.blind.proofs.Blind.{Twin, twin-below, no-node, no-error, all-spent, too-many-kinds, Twins, well, ill, cut, on, Blind, branch, either, lowered, gives, ifs, binds, thens, loops}
 
 -- the same word written into two buffers: they agree there, and elsewhere where they did
 at-put : (xs ys : List ℕ) (i a j : ℕ) → length ys ≡ length xs → ((j ≡ i → ⊥) → getD ys j 0 ≡ getD xs j 0) → getD (set ys i a) j 0 ≡ getD (set xs i a) j 0
@@ -90,7 +88,7 @@ unfolding want
 want-blind k = record {
   ends = λ m s w v h t. branch (ltb (s .live) liveRoom) refl
       (well (record { nodes = h .nodes; errors = h .errors; wanted = h .wanted }) (record { nodes = t .nodes; errors = t .errors; expected = t .expected; live = same-more k (t .live) }))
-      cut;
+      (cut too-many-kinds);
 }
 
 module _ (e : Sheet) where
@@ -102,7 +100,7 @@ module _ (e : Sheet) where
   unfolding bump
   bump-blind = record {
     ends = λ m s w v h t. branch (ltb (s .at) (count (e .tokens))) refl
-        (branch (ltb (s .reads) (e .limits .allowance)) refl (on refl refl refl (omega arith) h t) cut)
+        (branch (ltb (s .reads) (e .limits .allowance)) refl (on refl refl refl (omega arith) h t) (cut all-spent))
         (on refl refl refl (omega arith) h t);
   }
 
@@ -145,7 +143,7 @@ unfolding append
 append-blind l first = record {
   ends = λ m s w v h t. (branch (ltb (s .nodes) (min (length (w .nodes) / nodeWords) nodeLimit)) (ap (λ n. ltb (s .nodes) (min (n / nodeWords) nodeLimit)) (t .nodes .long))
       (well (record { nodes = omega (arith, h .nodes); errors = h .errors; wanted = h .wanted }) (record { nodes = write-same (s .nodes) l first (t .nodes); errors = t .errors; expected = t .expected; live = t .live }))
-      cut);
+      (cut no-node));
 }
 
 pub add-blind : (k : Kids) (link : ℕ) → Blind (add k link)
@@ -174,8 +172,8 @@ log-blind f = record {
       (branch (leb (s .wanted + listLength f s) (min (length (w .expected)) expectedLimit)) (ap (λ n. leb (s .wanted + listLength f s) (min n expectedLimit)) (t .expected .long))
       (well (record { nodes = h .nodes; errors = omega (arith, h .errors); wanted = omega (arith, h .wanted) })
       (record { nodes = t .nodes; errors = error-same (s .errors) f _ _ (t .errors); expected = copy-same 0 (listLength f s) (t .expected) (t .live) (listed-few f s); live = t .live }))
-      cut)
-      cut);
+      (cut no-error))
+      (cut no-error));
 }
 
 -- recovery: the error is logged, with the node records given back that were built since

@@ -4,7 +4,7 @@ use Rattle.kinds.specs.Number as kind
 use Rattle.cursor.specs.declared.Kids.{Kids}
 use Rattle.cursor.specs.Sheet.{Sheet}
 use Rattle.exprs.specs.Levels.{knot, levels, programRecord, program}
-use Rattle.blind.proofs.Blind.{Blind, refuses, binds}
+use Rattle.blind.proofs.Blind.{too-deep, Blind, refuses, binds}
 use Rattle.blind.proofs.Cursor.{append-blind}
 use Rattle.blind.proofs.Items.{start-blind}
 use Rattle.blind.proofs.Types.{atoms-blind, patterns-blind}
@@ -15,7 +15,7 @@ use Rattle.blind.proofs.Stmts.{body-blind}
 -- by the levels left
 pub levels-handed : (e : Sheet) (d : ℕ) → Handed (levels e d)
 unfolding knot
-levels-handed e zero = record { body = λ end. refuses; prec = λ min lambda. refuses; atom = atoms-blind e zero; pattern = patterns-blind e zero }
+levels-handed e zero = record { body = λ end. refuses too-deep; prec = λ min lambda. refuses too-deep; atom = atoms-blind e zero; pattern = patterns-blind e zero }
 levels-handed e (suc d) = record { body = body-blind (levels-handed e d); prec = precedence-blind (levels-handed e d); atom = atoms-blind e (suc d); pattern = patterns-blind e (suc d) }
 
 program-record-blind : (from : ℕ) (row : Kids) → Blind (programRecord from row)

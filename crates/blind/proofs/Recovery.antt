@@ -1,21 +1,15 @@
 -- The lists, imports, effects and recovery of parts are blind to what the lent buffers held.
 use mathlib.Core.List.{[], _∷_}
 use Prim.Native.Nat.{ℕ}
-use native.Mathlib.Nat.{le-refl}
-use native.Mathlib.Omega.{arith}
 use lib.Dec.{ltb, eqb}
 use Rattle.kinds.specs.Number as kind
-use Rattle.cursor.specs.declared.State.{State}
 use Rattle.cursor.specs.declared.Kids.{Kids}
 use Rattle.cursor.specs.declared.Ranged.{Ranged}
 use Rattle.cursor.specs.Node as node
 use Rattle.cursor.specs.Sheet.{Sheet}
-use Rattle.cursor.specs.Rule.{Stop, Out, failed, Rule}
-use Rattle.cursor.specs.Tokens.{rewind}
+use Rattle.cursor.specs.Rule.{Rule}
 use Rattle.cursor.specs.Checks.{unexpectedAt}
 use Rattle.cursor.specs.Records.{noKids}
-use Rattle.cursor.specs.Attempts.{unbuilt}
-use Rattle.cursor.proofs.Keeps.{Mark, mark, Stands}
 use Rattle.types.specs.declared.items.Items.{Items}
 use Rattle.types.specs.Items.{so}
 use Rattle.parts.specs.declared.imports.Imported.{Imported}
@@ -24,8 +18,8 @@ use Rattle.parts.specs.Values.{uncounted}
 use Rattle.parts.specs.Until.{untilTurn, itemsUntil}
 use Rattle.parts.specs.Imports.{endChain, tailChain, importItem, importItems, importEnd, importTail, pathTurn, importStmt}
 use Rattle.parts.specs.Effects.{effectRecord, effectStmt}
-use Rattle.parts.specs.Recovery.{undo, skipTurn, skip, skipped, recovering, logHere, lineEnd, afterStmt}
-use Rattle.blind.proofs.Blind.{twin-below, Twins, well, ill, cut, either, lowered, Blind, gives, ifs, binds, thens, loops}
+use Rattle.parts.specs.Recovery.{skipTurn, skip, skipped, logHere, lineEnd, afterStmt}
+use Rattle.blind.proofs.Blind.{Blind, gives, ifs, binds, thens, loops}
 use Rattle.blind.proofs.Cursor.{bump-blind, check-blind, eat-blind, expect-blind, unexpected-blind, pick-blind, eat-eol-blind, add-blind, log-blind, recovers}
 use Rattle.blind.proofs.Items.{start-blind, close-blind, add-some-blind, one-item-blind, ident-blind}
 use Rattle.blind.proofs.Types.{params-blind, returns-blind}
@@ -83,12 +77,7 @@ unfolding effectStmt
 effect-stmt-blind e atom h from glo =
     binds (start-blind e) (λ inside. thens (expect-blind e kind.Effect) (binds (ident-blind e) (λ name. binds (params-blind e atom h noKids) (λ i. binds (returns-blind e atom h) (λ link. effect-record-blind from inside glo name i link)))))
 
--- recovery; an end that is undone or recovered from is told of from the mark on, and what is left of it under any lower one
-pub undo-twins : {A : Type 0} {m : Mark} (s : State) {x y : Stop} → Stands m s → Twins {A = A} (mark s) (failed x) (failed y) → Twins m (undo s x) (undo s y)
-unfolding rewind
-undo-twins s h (ill {s = s1} g t) = well {s = rewind s s1} (record { nodes = h .nodes; errors = h .errors; wanted = h .wanted }) (twin-below {s1 = s1} (g .nodes) (g .errors) (g .wanted) (omega arith) t)
-undo-twins s h cut = cut
-
+-- recovery
 module _ (e : Sheet) where
   skip-turn-blind : (end : ℕ) (a : Unit) → Blind (skipTurn e end a)
   unfolding skipTurn
@@ -101,12 +90,6 @@ module _ (e : Sheet) where
   pub skipped-blind : (end : ℕ) → Blind (skipped e end)
   unfolding skipped
   skipped-blind end = thens (skip-blind end) gives
-
-  pub recovering-twins : {m : Mark} (end : ℕ) (s : State) {o p : Out ℕ} → Stands m s → Twins (mark s) o p → Twins m (recovering e end s o) (recovering e end s p)
-  unfolding recovering
-  recovering-twins end s h x = lowered h (either x
-      (λ s1 w1 v1 link g u. well g u)
-      (λ s1 w1 v1 f g u. thens (log-blind f) (skipped-blind end) .ends (mark s) (unbuilt s s1) w1 v1 (record { nodes = le-refl _; errors = g .errors; wanted = g .wanted }) (twin-below (g .nodes) (le-refl _) (le-refl _) (le-refl _) u)))
 
   log-here-blind : Blind (logHere e)
   unfolding logHere

@@ -13,7 +13,7 @@ use Rattle.types.specs.declared.items.Items.{Items}
 use Rattle.types.specs.Items.{so}
 use Rattle.types.specs.Types.{pickOne, unionTurn, union, type, returns, named, typedIdent, tableTyPair, tableTyOther, typeItem, typeLastKind, typeEnd, typeLastItem, typeLast, lastOf, typeItems, typeParen, typeTable, typeFunction, typeChain, typeBy, typeAtom, atoms, params, closureParams}
 use Rattle.types.specs.Patterns.{patternEnd, patternLast, tablePatternPair, patternItem, patternItems, patternEnded, patternRow, patternChain, patternBy, pattern, patterns}
-use Rattle.blind.proofs.Blind.{Twins, Blind, gives, refuses, ifs, binds, thens, loops}
+use Rattle.blind.proofs.Blind.{too-deep, Twins, Blind, gives, refuses, ifs, binds, thens, loops}
 use Rattle.blind.proofs.Cursor.{bump-blind, check-blind, eat-blind, expect-blind, pick-blind, add-blind}
 use Rattle.blind.proofs.Items.{start-blind, close-blind, pair-blind, add-some-blind, lit-blind, ident-blind, last-item-blind, items-until-with-last-blind}
 
@@ -120,7 +120,7 @@ module _ (e : Sheet) (atom : Rule ℕ) (x : Blind atom) where
 
 pub atoms-blind : (e : Sheet) (d : ℕ) → Blind (atoms e d)
 unfolding atoms
-atoms-blind e zero = refuses
+atoms-blind e zero = refuses too-deep
 atoms-blind e (suc d) = type-atom-blind e (atoms e d) (atoms-blind e d)
 
 -- patterns
@@ -166,5 +166,5 @@ module _ (e : Sheet) where
 
 pub patterns-blind : (e : Sheet) (d : ℕ) → Blind (patterns e d)
 unfolding patterns
-patterns-blind e zero = refuses
+patterns-blind e zero = refuses too-deep
 patterns-blind e (suc d) = pattern-blind e (patterns e d) (patterns-blind e d)

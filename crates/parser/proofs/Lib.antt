@@ -1,5 +1,6 @@
 pub mod Blanks
 pub mod FinishPaths
 pub mod ParsePaths
+pub mod Numbers
 pub mod Theorems
 pub mod Unique

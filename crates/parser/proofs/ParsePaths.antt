@@ -31,7 +31,7 @@ finished-same : {m : Mark} {o p : Out ℕ} (n e x : List ℕ) → Twins m o p �
 unfolding finished
 finished-same n e x (well h t) = over refl refl refl refl refl (same-up-to (t .nodes)) (same-up-to (t .errors)) (same-up-to (t .expected))
 finished-same n e x (ill h t) = refl
-finished-same n e x cut = refl
+finished-same n e x (cut p) = refl
 
 none-below : {xs ys : List ℕ} → length ys ≡ length xs → Same 0 xs ys
 none-below l = record { long = l; below = λ i h. absurd (omega (arith, h)) }

@@ -20,7 +20,7 @@ use entry::refusal_number;
 use exprs::program::program;
 use parts::values::Left;
 
-pub mod clear;
+mod clear;
 
 // The words of a node record and of an error record.
 pub const NODE_WORDS: usize = 8;
