@@ -8,7 +8,7 @@ use Rattle.replay.proofs.main.Tie as tie
 use borrow.Author.Needs.{needs}
 
 abbrev Inv-loop : tie.InvT-loop
-Inv-loop room₀ i₀ room i = length room ≡ 29892
+Inv-loop room₀ i₀ room i = length room ≡ 29893
 
 abbrev μ-loop : tie.MeasureT-loop
 μ-loop room₀ i₀ room i = 65536 - i
@@ -25,5 +25,5 @@ main-spec =
     (λ c. search needs)
     (λ c. search needs)
     (λ c. search needs)
-    (λ c. search needs)
+    (λ c κs. tt)
     (λ c. search needs))
