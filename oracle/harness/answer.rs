@@ -59,19 +59,35 @@ fn list(reading: &Reading, counts: Counts, words: bool) -> String {
     head + &lines.text
 }
 
-/// The listing of a sheet. Outside the domain it is `outside` with the reason, or, with `rule`, what the document's own
-/// rules answer there; the mark tells which sheets these are.
-fn sheet(sheet: &Sheet, limits: Limits, rule: bool) -> Answer {
+/// How a sheet was read.
+pub enum Outcome {
+    Read(Reading),
+    Refused(u8),
+    /// By rule: a program without statements at this place.
+    Empty(u32),
+    /// Outside the domain, and the rule was not asked for.
+    Outside,
+}
+
+pub struct Run {
+    pub outcome: Outcome,
+    pub mark: Mark,
+    pub counts: Counts,
+}
+
+/// Reads a sheet. Outside the domain the document's own rules decide with `rule`; the mark tells which sheets these are.
+pub fn read(sheet: &Sheet, limits: Limits, rule: bool) -> Run {
     let mark = match sheet.trivia_start() {
         Some(start) if rule => {
-            return short(format!("read 0 reads 0 nodes 1 errors 0\n0 Program {start} {start}\n"), Mark::Trivia);
+            let outcome = if limits.nodes == 0 { Outcome::Refused(7) } else { Outcome::Empty(start) };
+            return Run { outcome, mark: Mark::Trivia, counts: Counts { records: 1, records_peak: 1, ..Counts::default() } };
         }
         Some(_) => Mark::Trivia,
         None if !sheet.literals_plain() => Mark::Literal,
         None => Mark::None,
     };
     if mark != Mark::None && !rule {
-        return short(format!("outside {}\n", mark.word()), mark);
+        return Run { outcome: Outcome::Outside, mark, counts: Counts::default() };
     }
     let (result, counts) = probe::run(limits, rule, || {
         let (program, errors) = parse_tokens(Plain, sheet.text, &sheet.tokens);
@@ -79,9 +95,20 @@ fn sheet(sheet: &Sheet, limits: Limits, rule: bool) -> Answer {
     });
     let mark = if counts.by_rule && mark == Mark::None { Mark::Attempt } else { mark };
     match result {
-        Ok(reading) => Answer { text: list(&reading, counts, false), mark, counts, reading: Some(reading) },
-        Err(End::Refused(number)) => Answer { text: format!("refused {number}\n"), mark, counts, reading: None },
-        Err(End::Attempt) => short("outside attempt\n".to_owned(), Mark::Attempt),
+        Ok(reading) => Run { outcome: Outcome::Read(reading), mark, counts },
+        Err(End::Refused(number)) => Run { outcome: Outcome::Refused(number), mark, counts },
+        Err(End::Attempt) => Run { outcome: Outcome::Outside, mark: Mark::Attempt, counts: Counts::default() },
+    }
+}
+
+/// The listing of a sheet; outside the domain and without `rule` it is `outside` with the reason.
+fn sheet(sheet: &Sheet, limits: Limits, rule: bool) -> Answer {
+    let Run { outcome, mark, counts } = read(sheet, limits, rule);
+    match outcome {
+        Outcome::Read(reading) => Answer { text: list(&reading, counts, false), mark, counts, reading: Some(reading) },
+        Outcome::Refused(number) => Answer { text: format!("refused {number}\n"), mark, counts, reading: None },
+        Outcome::Empty(at) => short(format!("read 0 reads 0 nodes 1 errors 0\n0 Program {at} {at}\n"), mark),
+        Outcome::Outside => short(format!("outside {}\n", mark.word()), mark),
     }
 }
 
@@ -97,6 +124,16 @@ pub fn bytes(input: &[u8], limits: Limits, rule: bool) -> Answer {
     match Bundle::from_bytes(input) {
         Some(read) => bundle(&read, limits, rule),
         None => short("refused 12\n".to_owned(), Mark::None),
+    }
+}
+
+/// What sort of listing it is: read with errors or without, or its first line.
+pub fn sort(listing: &str) -> &str {
+    let head = listing.lines().next().unwrap_or("");
+    match head.strip_prefix("read 0") {
+        Some(rest) if rest.ends_with("errors 0") => "read without errors",
+        Some(_) => "read with errors",
+        None => head,
     }
 }
 

@@ -24,6 +24,11 @@ fn number(bytes: &[u8]) -> u32 {
 }
 
 impl Bundle {
+    /// The tokens as the library takes them: kind, start, end.
+    pub fn triples(&self) -> Vec<[u32; 3]> {
+        self.words.iter().map(|word| [word.kind.into(), word.start, word.end]).collect()
+    }
+
     pub fn to_bytes(&self) -> Vec<u8> {
         let mut bytes = (self.text.len() as u32).to_le_bytes().to_vec();
         bytes.extend_from_slice(&self.text);

@@ -1,9 +1,9 @@
-//! What stands before the parser: refusals 3 to 6 of the document, the token list handed over, and the domain's conditions.
+//! What stands before the parser: refusals 1 to 6 of the document, the token list handed over, and the domain's conditions.
 //! None of this comes from the original.
 
 use text_size::TextRange;
 
-use crate::bundle::{Bundle, Word};
+use crate::bundle::Bundle;
 use crate::compiler::token::{Token, TokenKind, TokenKind::*};
 
 /// All kinds in the order in which token.rs declares them.
@@ -36,28 +36,39 @@ fn spelled(kind: TokenKind, bytes: &[u8]) -> bool {
     }
 }
 
-fn check(text: &str, previous_end: u32, word: Word) -> Result<Token, u8> {
-    let kind = *KINDS.get(usize::from(word.kind)).filter(|kind| **kind != Eof).ok_or(4)?;
-    let (start, end) = (word.start as usize, word.end as usize);
-    if start >= end || word.start < previous_end {
+fn check(text: &str, previous_end: u32, [kind, from, to]: [u32; 3]) -> Result<Token, u8> {
+    let kind = *KINDS.get(kind as usize).filter(|kind| **kind != Eof).ok_or(4)?;
+    let (start, end) = (from as usize, to as usize);
+    if start >= end || from < previous_end {
         return Err(5);
     }
     let spelling = text.get(start..end).ok_or(5)?;
     if !spelled(kind, spelling.as_bytes()) {
         return Err(6);
     }
-    Ok(Token::new(kind, TextRange::new(word.start.into(), word.end.into())))
+    Ok(Token::new(kind, TextRange::new(from.into(), to.into())))
 }
 
-/// The entry check, or the refusal's number. The bundle's own limits lie below those of refusals 1 and 2.
-pub fn enter(bundle: &Bundle) -> Result<Sheet<'_>, u8> {
-    let text = std::str::from_utf8(&bundle.text).map_err(|_| 3)?;
+/// The entry check of a text and its tokens (kind, start, end), or the refusal's number.
+pub fn enter_words<'a>(text: &'a [u8], words: &[[u32; 3]]) -> Result<Sheet<'a>, u8> {
+    if text.len() > 65_535 {
+        return Err(1);
+    }
+    if words.len() > 4_096 {
+        return Err(2);
+    }
+    let text = std::str::from_utf8(text).map_err(|_| 3)?;
     let (mut tokens, mut end) = (Vec::new(), 0);
-    for word in &bundle.words {
+    for word in words {
         tokens.push(check(text, end, *word)?);
-        end = word.end;
+        end = word[2];
     }
     Ok(Sheet { text, tokens })
+}
+
+/// The same of a bundle, whose own limits lie below those of refusals 1 and 2.
+pub fn enter(bundle: &Bundle) -> Result<Sheet<'_>, u8> {
+    enter_words(&bundle.text, &bundle.triples())
 }
 
 /// The domain's conditions on one literal.

@@ -3,6 +3,7 @@
 pub mod answer;
 pub mod bundle;
 pub mod chance;
+pub mod classes;
 pub mod compiler;
 pub mod cost;
 pub mod damage;
@@ -10,6 +11,7 @@ pub mod entry;
 pub mod grammatical;
 pub mod listing;
 pub mod probe;
+pub mod records;
 pub mod sites;
 pub mod spell;
 pub mod utils;

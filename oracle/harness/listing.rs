@@ -2,11 +2,12 @@
 //! order in which they are read. With `words` a line goes on after ` ;` with what its record's flags and bare ranges tell: absent parts,
 //! lengths of lists, the value of a Bool, the form of a member or import, `glo`, `?` and `...`. The lister prints none of that.
 
-use std::{fmt::Write, num::IntErrorKind};
+use std::fmt::Write;
 
 use text_size::TextRange;
 
 use crate::compiler::{ast::*, error::CompilerError};
+use crate::records::fault;
 
 #[derive(Default)]
 pub struct Lines {
@@ -386,17 +387,6 @@ impl Lines {
             other => unreachable!("outside the domain: {other:?}"),
         };
         writeln!(self.text, "error {line}").expect("a string has room");
-    }
-}
-
-/// The faults of an integer, in the document's order.
-fn fault(kind: &IntErrorKind) -> u8 {
-    match kind {
-        IntErrorKind::Empty => 0,
-        IntErrorKind::InvalidDigit => 1,
-        IntErrorKind::PosOverflow => 2,
-        IntErrorKind::NegOverflow => 3,
-        other => unreachable!("no fault of from_str_radix: {other:?}"),
     }
 }
 

@@ -3,13 +3,14 @@
 //! Whatever ends a reading early unwinds out of the original's parser and is caught in `run`.
 
 use std::{
-    cell::Cell,
+    cell::{Cell, RefCell},
     num::ParseFloatError,
     panic::{self, AssertUnwindSafe},
     sync::atomic::{AtomicU64, Ordering::Relaxed},
 };
 
 use crate::compiler::{ast::*, error::CompilerError, token::TokenKind};
+use crate::records::{self, Built};
 use crate::sites::SITES;
 
 /// The limits of one reading.
@@ -48,17 +49,21 @@ pub struct Counts {
     pub depth: u64,
     pub depth_peak: u64,
     pub live_peak: u64,
+    pub errors_peak: u64,
+    pub expected_peak: u64,
     /// The document's own rule was needed: an attempt kept with its errors, or a Float that does not parse.
     pub by_rule: bool,
 }
 
 thread_local! {
     static COUNTS: Cell<Counts> = const { Cell::new(Counts {
-        readings: 0, records: 0, records_peak: 0, depth: 0, depth_peak: 0, live_peak: 0, by_rule: false,
+        readings: 0, records: 0, records_peak: 0, depth: 0, depth_peak: 0, live_peak: 0,
+        errors_peak: 0, expected_peak: 0, by_rule: false,
     }) };
     static LIMITS: Cell<Limits> = const { Cell::new(LISTER) };
     static RULE: Cell<bool> = const { Cell::new(false) };
     static STAIN: Cell<bool> = const { Cell::new(false) };
+    static BUILT: RefCell<Vec<Built>> = const { RefCell::new(Vec::new()) };
 }
 
 fn change(f: impl FnOnce(&mut Counts)) -> Counts {
@@ -85,6 +90,7 @@ pub fn run<T>(limits: Limits, rule: bool, parse: impl FnOnce() -> T) -> (Result<
     COUNTS.set(Counts::default());
     LIMITS.set(limits);
     RULE.set(rule);
+    BUILT.with_borrow_mut(Vec::clear);
     let result = panic::catch_unwind(AssertUnwindSafe(parse)).map_err(|cause| match cause.downcast::<End>() {
         Ok(how) => *how,
         Err(cause) => panic::resume_unwind(cause),
@@ -130,6 +136,7 @@ pub fn mark() -> Counts {
 /// Node records built since `mark` are given back.
 pub fn give_back(mark: &Counts) {
     change(|c| c.records = mark.records);
+    BUILT.with_borrow_mut(|built| built.truncate(mark.records as usize));
 }
 
 /// From now on, on this thread, `stain` does what it says.
@@ -167,8 +174,13 @@ fn expected(error: &CompilerError) -> u64 {
 
 /// An error is about to join the list.
 pub fn log(errors: &[CompilerError], error: &CompilerError) {
-    refuse_past(errors.len() as u64 + 1, |l| l.errors, 8);
-    refuse_past(errors.iter().chain([error]).map(expected).sum(), |l| l.expected, 8);
+    let (count, kinds) = (errors.len() as u64 + 1, errors.iter().chain([error]).map(expected).sum());
+    change(|c| {
+        c.errors_peak = c.errors_peak.max(count);
+        c.expected_peak = c.expected_peak.max(kinds);
+    });
+    refuse_past(count, |l| l.errors, 8);
+    refuse_past(kinds, |l| l.expected, 8);
 }
 
 /// A Float's value; where it does not parse and the rule decides, any value serves, since the tree shows none.
@@ -181,67 +193,64 @@ pub fn float(digits: &str) -> Result<f64, ParseFloatError> {
     value
 }
 
-/// A ranged value: whether it has a record of its own, or is one with a value inside it that has one.
+/// A ranged value: the kind and range of its record, or none where it is one with a value inside it that has one.
 pub trait Ranged {
-    fn own(&self) -> bool {
-        true
-    }
+    fn record(&self) -> Option<Built>;
 }
 
-impl<S> Ranged for Program<S> {}
-impl<S> Ranged for Block<S> {}
-impl<S> Ranged for Effect<S> {}
-impl<S> Ranged for EffectHandler<S> {}
-impl<S> Ranged for Function<S> {}
-impl<S> Ranged for Ident<S> {}
-impl<S> Ranged for ImportItem<S> {}
-impl<S> Ranged for Lit<S> {}
-impl<S> Ranged for MatchCase<S> {}
-impl<S> Ranged for TablePatternPair<S> {}
-impl<S> Ranged for TableProperty<S> {}
-impl<S> Ranged for TableTyOther<S> {}
-impl<S> Ranged for TableTyPair<S> {}
-
-impl<S> Ranged for Expr<S> {
-    fn own(&self) -> bool {
-        !matches!(self.kind, ExprKind::Lit(_) | ExprKind::Ident(_))
-    }
+macro_rules! ranged {
+    ($($name:ident $value:ident $kind:expr;)*) => {
+        $(impl<S> Ranged for $name<S> {
+            fn record(&self) -> Option<Built> {
+                let $value = self;
+                Option::<u32>::from($kind).map(|kind| (kind, self.range))
+            }
+        })*
+    };
 }
 
-impl<S> Ranged for Pattern<S> {
-    fn own(&self) -> bool {
-        !matches!(self.kind, PatternKind::Lit(_) | PatternKind::Ident(_))
-    }
+ranged! {
+    AssignLeft _v None;
+    Block _v records::BLOCK;
+    Effect _v records::EFFECT;
+    EffectHandler _v records::EFFECT_HANDLER;
+    Expr v records::expr_kind(&v.kind);
+    Function v records::function_kind(v.kind);
+    Ident _v records::IDENT;
+    ImportItem _v records::IMPORT_ITEM;
+    Lit v records::lit_kind(&v.kind);
+    MatchCase _v records::MATCH_CASE;
+    Pattern v records::pattern_kind(&v.kind);
+    TablePatternPair _v records::TABLE_PATTERN_PAIR;
+    TableProperty _v records::TABLE_PROPERTY;
+    TableTyOther _v records::TABLE_TY_OTHER;
+    TableTyPair _v records::TABLE_TY_PAIR;
+    Ty v records::ty_kind(&v.kind);
+    TypedIdent v v.ty.as_ref().map(|_| records::TYPED_IDENT);
 }
 
-impl<S> Ranged for Ty<S> {
-    fn own(&self) -> bool {
-        !matches!(self.kind, TyKind::Lit(_) | TyKind::Ident(_))
-    }
-}
-
-impl<S> Ranged for TypedIdent<S> {
-    fn own(&self) -> bool {
-        self.ty.is_some()
-    }
-}
-
-impl<S> Ranged for AssignLeft<S> {
-    fn own(&self) -> bool {
-        false
+impl<S> Ranged for Program<S> {
+    fn record(&self) -> Option<Built> {
+        Some((records::PROGRAM, self.function.range))
     }
 }
 
 /// A ranged value has been built.
 pub fn built<T: Ranged>(value: T) -> T {
-    if value.own() {
+    if let Some(record) = value.record() {
         let counts = change(|c| {
             c.records += 1;
             c.records_peak = c.records_peak.max(c.records);
         });
         refuse_past(counts.records, |l| l.nodes, 7);
+        BUILT.with_borrow_mut(|built| built.push(record));
     }
     value
+}
+
+/// The values in use, in the order of building.
+pub fn order() -> Vec<Built> {
+    BUILT.with_borrow(Vec::clone)
 }
 
 static HITS: [AtomicU64; SITES.len()] = [const { AtomicU64::new(0) }; SITES.len()];

@@ -8,12 +8,7 @@ use std::{collections::BTreeMap, io::{self, BufWriter, Write}};
 use lucia::{answer::{self, Answer, Mark}, bundle::{read_stream, write_piece}, probe::LISTER};
 
 fn sort_of(answer: &Answer) -> String {
-    let head = answer.text.lines().next().unwrap_or("");
-    let sort = match head.strip_prefix("read 0") {
-        Some(rest) if rest.ends_with("errors 0") => "read without errors",
-        Some(_) => "read with errors",
-        None => head,
-    };
+    let sort = answer::sort(&answer.text);
     if answer.mark == Mark::None { sort.to_owned() } else { format!("{sort}, {}", answer.mark.word()) }
 }
 

@@ -1,6 +1,7 @@
 #!/usr/bin/env python3
-"""Cuts the cases of crates/type_cases out of the stored answers and writes its stdin and stdout: make.py WORDS, where WORDS is the
-stream of the same listings with --words. README.md beside it says what is cut, and what is printed of it.
+"""Cuts the cases of crates/type_cases out of the stored answers and writes its stdin and stdout: make.py FOLDER, where FOLDER has the set
+`domain`: its bundles, its listings, and as domain.words the same listings with --words. README.md beside it says what is cut, and
+what is printed of it.
 """
 import collections
 import os
@@ -8,7 +9,6 @@ import struct
 import sys
 
 HERE = os.path.dirname(os.path.abspath(__file__))
-ANSWERS = os.path.join(HERE, '..', 'answers', 'domain.')
 CRATE = os.path.join(HERE, '..', '..', 'crates', 'type_cases')
 FORMS = ['type', 'atom', 'pattern']
 IDENT, RAW_STR, MATCH, ARROW, FAT_ARROW, OPEN_BRACE, CLOSE_BRACE, COLON, ASSIGN, V_BAR, EOL = 4, 8, 12, 37, 38, 52, 53, 59, 60, 63, 69
@@ -216,8 +216,8 @@ def cases(number, sheet, stored, told):
         yield from faulty(sheet, opened, errors[0])
 
 
-def all_cases(words):
-    streams = [pieces(path) for path in (ANSWERS + 'bundles', ANSWERS + 'listings', words)]
+def all_cases(folder):
+    streams = [pieces(os.path.join(folder, 'domain.' + part)) for part in ('bundles', 'listings', 'words')]
     for number, (bundle, listing, worded) in enumerate(zip(*streams)):
         stored, told = listing.decode().splitlines(), worded.decode().splitlines()
         assert stored == [line.partition(' ;')[0] for line in told], 'the words are those of other listings'

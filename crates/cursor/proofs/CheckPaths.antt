@@ -1,6 +1,6 @@
 -- Each way through the rules that test what stands here.
 use mathlib.Core.Path.{_≡_, refl, sym, ap, _∙_}
-use mathlib.Core.Bool.{Bool, true, false}
+use mathlib.Core.Bool.{true, false}
 use mathlib.Core.List.{List}
 use lib.ListN.{set, length, drop, getD}
 use lib.Seq.{drop-cons, drop-nil}
@@ -11,14 +11,13 @@ use Prim.Native.Nat.{ℕ, zero, suc, _+_, _<_, _≤_}
 use borrow.Author.Tests.{eq-eqb, ne-eqb, lt-ltb, le-ltb}
 use Rattle.cursor.specs.declared.State.{State}
 use Rattle.cursor.specs.declared.Fault.{Fault}
-use Rattle.cursor.specs.declared.Span.{Span}
 use Rattle.cursor.specs.declared.Ranged.{Ranged}
 use Rattle.cursor.specs.declared.Ranged.the-variants as ranged
 use Rattle.cursor.specs.Sheet.{Sheet, kindAt, rangeAt}
-use Rattle.cursor.specs.Rule.{World, Stop, fault, refused, Out, done, failed}
+use Rattle.cursor.specs.Rule.{World, Stop, fault, refused, done, failed}
 use Rattle.cursor.specs.Buffer.{put}
 use Rattle.cursor.specs.Tokens.{bump}
-use Rattle.cursor.specs.Checks.{liveRoom, want, check, eat, unexpectedAt, unexpected, expect, eatRange, pickFrom, pick, foundAt}
+use Rattle.cursor.specs.Checks.{liveRoom, want, check, eat, unexpectedAt, unexpected, expect, eatRange, pickFrom, foundAt}
 
 -- what a rule answered, from what a function with that rule ensures and what its result is known to be
 pub via : {A B : Type 0} (f : A → World → B) {r v : A} {w : World} {m : B} → f r w ≡ m → r ≡ v → m ≡ f v w

@@ -5,7 +5,7 @@ use Prim.Native.Nat.{ℕ, zero, suc, _+_, _*_, _<_, _≤_}
 use native.Mathlib.Omega.{arith}
 use Rattle.cursor.specs.declared.Label.{Label}
 use Rattle.cursor.specs.Layout.{nodeWords, KIND, START, END, FIRST, NEXT, ONE, TWO, FLAGS, cell}
-use Rattle.cursor.specs.Tree.{Trees, none, node, join, tree, word, label}
+use Rattle.cursor.specs.Tree.{Trees, none, join, tree, word, label}
 
 -- the link behind the child that a link leads to; behind no child, the first link itself
 abbrev pub after : List ℕ → ℕ → ℕ → ℕ

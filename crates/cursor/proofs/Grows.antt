@@ -1,14 +1,14 @@
 -- How the stack grows: what each write into the node buffer makes of the entries on top.
 use mathlib.Core.Path.{_≡_, refl, ap, _∙_}
-use mathlib.Core.List.{List, [], _∷_}
-use Prim.Native.Nat.{ℕ, zero, suc, _+_, _*_, _<_, _≤_}
+use mathlib.Core.List.{List, _∷_}
+use Prim.Native.Nat.{ℕ, suc, _+_, _*_, _<_, _≤_}
 use native.Mathlib.Omega.{arith}
 use lib.ListN.{length}
 use Rattle.cursor.specs.declared.Label.{Label}
 use Rattle.cursor.specs.Layout.{nodeWords, KIND, START, END, FIRST, NEXT, ONE, TWO, FLAGS, cell}
 use Rattle.cursor.specs.Buffer.{put}
 use Rattle.cursor.specs.Records.{write}
-use Rattle.cursor.specs.Tree.{Trees, none, node, join, tree, word, label}
+use Rattle.cursor.specs.Tree.{Trees, none, join, tree, word, label}
 use Rattle.cursor.proofs.Finished.{nil, snoc, built-in, built-but, row-le, row-last}
 use Rattle.cursor.proofs.Writes.{put-other, put-same, put-length, put-agree, write-length, write-word}
 use Rattle.cursor.proofs.Laws.{over, single, grow, last-in, late}

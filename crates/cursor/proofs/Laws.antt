@@ -1,15 +1,15 @@
 -- How finished trees and rows come about: a record over a row, one more in a row, a late child.
 use mathlib.Core.Path.{_≡_, refl, sym, ap, _∙_}
 use mathlib.Core.List.{List}
-use Prim.Native.Nat.{ℕ, zero, suc, _+_, _*_, _<_, _≤_}
+use Prim.Native.Nat.{ℕ, suc, _+_, _*_, _<_, _≤_}
 use native.Mathlib.Omega.{arith}
 use lib.ListN.{length}
 use Rattle.cursor.specs.declared.Label.{Label}
 use Rattle.cursor.specs.Layout.{nodeWords, FIRST, NEXT, cell}
 use Rattle.cursor.specs.Buffer.{put}
 use Rattle.cursor.specs.Records.{write}
-use Rattle.cursor.specs.Tree.{Trees, none, node, join, tree, word, label}
-use Rattle.cursor.proofs.Finished.{after, behind, Built, built, Row, nil, snoc, built-in, row-le, row-last, Agree, label-same, row-end, row-keep, built-keep}
+use Rattle.cursor.specs.Tree.{Trees, none, node, join, tree, word}
+use Rattle.cursor.proofs.Finished.{after, Built, built, Row, nil, snoc, built-in, row-le, row-last, label-same, row-end, row-keep, built-keep}
 use Rattle.cursor.proofs.Writes.{put-other, put-same, put-agree, put-below, put-above, write-agree, write-word, write-label}
 
 pub join-none : (t : Trees) → join t none ≡ t

@@ -1,13 +1,12 @@
 -- Loops: as many turns as tokens are left are enough, since each turn that goes on leaves fewer.
-use mathlib.Core.Path.{_≡_, refl, sym, ap, _∙_}
-use mathlib.Core.List.{List}
+use mathlib.Core.Path.{_≡_, refl, ap, _∙_}
 use Prim.Native.Nat.{ℕ, zero, suc, _+_, _-_, _<_, _≤_}
 use native.Mathlib.Omega.{arith}
 use Rattle.cursor.specs.declared.State.{State}
 use Rattle.cursor.specs.declared.Fault.{Fault}
 use Rattle.cursor.specs.Sheet.{Sheet, count}
-use Rattle.cursor.specs.Rule.{World, Stop, Out, done, failed, bind, Next, more, stop, Turn, next, turns, iterate}
-use Rattle.cursor.proofs.Ends.{Ends, well, ill, cut, Any, at-done, weaken, then, bind-same}
+use Rattle.cursor.specs.Rule.{World, Stop, done, failed, bind, Next, more, stop, Turn, next, turns, iterate}
+use Rattle.cursor.proofs.Ends.{Ends, well, Any, at-done, then, bind-same}
 
 -- how many tokens are left
 abbrev pub left : Sheet → State → ℕ

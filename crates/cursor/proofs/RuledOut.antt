@@ -1,14 +1,14 @@
 -- Wrong answers that the contracts rule out, two to each public function, each at one small sheet: the answer that a slip in the code would give
 -- does not meet the contract. `Post` is the contract as the check reads it from the source. Some of the slips are must-fail edits besides.
 -- Assumes nothing.
-use mathlib.Core.Path.{_≡_, refl, sym, ap, _∙_}
+use mathlib.Core.Path.{_≡_, refl, ap, _∙_}
 use mathlib.Core.List.{List, [], _∷_}
 use mathlib.Core.Bool.{Bool, true, false}
 use Prim.Native.Nat.{ℕ, _+_, _*_, _^_}
 use native.Mathlib.Omega.{arith}
 use borrow.Author.Tests.{eqb-false}
 use lib.Dec.{eqb}
-use lib.ListN.{length, getD}
+use lib.ListN.{getD}
 use denote.Ref.{RefT}
 use Rattle.kinds.specs.Number as kind
 use Rattle.kinds.specs.Kinds.{isTrivia}
@@ -27,8 +27,8 @@ use Rattle.cursor.specs.declared.Picked.the-variants as picks
 use Rattle.cursor.specs.declared.Built.the-variants as builds
 use Rattle.cursor.specs.Sheet.{count, kindAt, rangeAt}
 use Rattle.cursor.specs.Buffer.{put, copy}
-use Rattle.cursor.specs.Layout.{NEXT, TWO, FLAGS}
-use Rattle.cursor.specs.Rule.{World, world, Stop, fault, refused, Out, done, failed, turns, iterate}
+use Rattle.cursor.specs.Layout.{NEXT, FLAGS}
+use Rattle.cursor.specs.Rule.{World, world, fault, refused, Out, done, failed, turns, iterate}
 use Rattle.cursor.specs.Tokens.{pastFrom, pastTrivia, startOf, endOf, bump, eatTrivia, eolTurn, eatEol, rewind}
 use Rattle.cursor.specs.Checks.{want, check, eat, unexpectedAt, unexpected, expect, eatRange, pickFrom}
 use Rattle.cursor.specs.Records.{bit, write, append, add, reflag, writeError, log}

@@ -2,15 +2,15 @@
 -- The number beside the buffer is the count of records. A rule is stated over any stack, so that no rule speaks of what others left there.
 use mathlib.Core.Path.{_≡_, refl, _∙_}
 use mathlib.Core.List.{List, [], _∷_}
-use Prim.Native.Nat.{ℕ, zero, suc, _+_, _*_, _<_, _≤_}
+use Prim.Native.Nat.{ℕ, suc, _+_, _*_, _<_, _≤_}
 use native.Mathlib.Omega.{arith}
 use native.Mathlib.Nat.{le-refl}
 use lib.ListN.{length}
 use Rattle.cursor.specs.declared.Label.{Label}
-use Rattle.cursor.specs.Layout.{nodeWords, NEXT, cell}
+use Rattle.cursor.specs.Layout.{nodeWords, NEXT}
 use Rattle.cursor.specs.Buffer.{put}
 use Rattle.cursor.specs.Records.{write}
-use Rattle.cursor.specs.Tree.{Trees, none, node, join, tree, size, word, label, trees, meaning}
+use Rattle.cursor.specs.Tree.{Trees, tree, size, word, label, trees, meaning}
 use Rattle.cursor.proofs.Finished.{after, Built, Row, built-in, built-label, built-keep, row-le, row-end, row-keep, Agree, agree-below}
 use Rattle.cursor.proofs.Writes.{put-length, put-below, write-agree, write-length}
 use Rattle.cursor.proofs.Meaning.{built-meaning, built-size, row-meaning, row-size}

@@ -1,12 +1,12 @@
 -- What a write into the node buffer does, word for word.
-use mathlib.Core.Path.{_≡_, refl, sym, ap, _∙_, subst}
+use mathlib.Core.Path.{_≡_, refl, _∙_}
 use mathlib.Core.List.{List, [], _∷_}
 use Prim.Native.Nat.{ℕ, zero, suc, _+_, _*_, _<_, _≤_}
 use native.Mathlib.Omega.{arith}
-use lib.ListN.{length, getD, set, length-set}
+use lib.ListN.{length, getD, length-set}
 use lib.Seq.{getD-set-same, getD-set-other}
 use Rattle.cursor.specs.declared.Label.{Label}
-use Rattle.cursor.specs.Layout.{nodeWords, KIND, START, END, FIRST, NEXT, ONE, TWO, FLAGS, cell}
+use Rattle.cursor.specs.Layout.{nodeWords, KIND, START, END, ONE, TWO, FLAGS, cell}
 use Rattle.cursor.specs.Buffer.{put}
 use Rattle.cursor.specs.Records.{write}
 use Rattle.cursor.specs.Tree.{word, label}

@@ -1,7 +1,6 @@
 -- What the program's answers are as ends of rules.
 use Prim.Native.Nat.{ℕ}
 use mathlib.Core.Bool.{Bool, true, false}
-use Rattle.cursor.specs.declared.State.{State}
 use Rattle.cursor.specs.declared.Failure.{Failure}
 use Rattle.cursor.specs.declared.Failure.the-variants as failures
 use Rattle.cursor.specs.declared.Moved.{Moved}

@@ -1,8 +1,6 @@
 -- Attempts and recovery: what the Rust does by `try_parse`, and where a statement fails.
-use Prim.Native.Nat.{ℕ}
 use Rattle.cursor.specs.declared.State.{State}
-use Rattle.cursor.specs.declared.Fault.{Fault}
-use Rattle.cursor.specs.Rule.{World, Out, Rule, orElse, _>>_}
+use Rattle.cursor.specs.Rule.{Rule, orElse, _>>_}
 use Rattle.cursor.specs.Tokens.{rewind}
 use Rattle.cursor.specs.Records.{log}
 

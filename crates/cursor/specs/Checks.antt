@@ -1,18 +1,17 @@
 -- Tests of what stands here, and the live list of the kinds that were expected.
-use Prim.Native.Nat.{ℕ, zero, suc, _+_}
+use Prim.Native.Nat.{ℕ, _+_}
 use mathlib.Core.List.{List, [], _∷_}
 use mathlib.Core.Bool.{Bool, true, false}
 use lib.Dec.{ltb, eqb}
-use Rattle.kinds.specs.Number as kind
 use Rattle.cursor.specs.declared.State.{State}
 use Rattle.cursor.specs.declared.Fault.{Fault}
 use Rattle.cursor.specs.declared.Span.{Span}
 use Rattle.cursor.specs.declared.Ranged.{Ranged}
 use Rattle.cursor.specs.declared.Ranged.the-variants as ranged
 use Rattle.cursor.specs.Sheet.{Sheet, kindAt, rangeAt}
-use Rattle.cursor.specs.Rule.{World, Stop, fault, refused, Out, done, failed, Rule, _>>=_, _>>_, give, ifSo, Next, more, stop, Turn, iterate}
+use Rattle.cursor.specs.Rule.{fault, refused, Out, done, failed, Rule, _>>=_, _>>_, give, ifSo}
 use Rattle.cursor.specs.Buffer.{put}
-use Rattle.cursor.specs.Tokens.{bump, eatTrivia}
+use Rattle.cursor.specs.Tokens.{bump}
 
 -- the longest live list
 abbrev pub liveRoom : ℕ

@@ -9,7 +9,7 @@ use Rattle.cursor.specs.declared.Fault.{Fault}
 use Rattle.cursor.specs.declared.Kids.{Kids}
 use Rattle.cursor.specs.declared.Label.{Label}
 use Rattle.cursor.specs.Layout.{nodeWords, KIND, START, END, FIRST, NEXT, ONE, TWO, FLAGS, cell, errorWords, errorCell, nodeLimit, errorLimit, expectedLimit}
-use Rattle.cursor.specs.Rule.{World, Stop, fault, refused, Out, done, failed, Rule}
+use Rattle.cursor.specs.Rule.{World, refused, Out, done, failed, Rule}
 use Rattle.cursor.specs.Buffer.{put, copy}
 use Rattle.cursor.specs.Checks.{liveRoom}
 

@@ -1,7 +1,7 @@
 -- Where the reading stands in the token list.
 use Prim.Native.Nat.{ℕ, zero, suc, _+_, _-_, min}
 use mathlib.Core.List.{List}
-use mathlib.Core.Bool.{Bool, true, false, not}
+use mathlib.Core.Bool.{true, false}
 use lib.Dec.{ltb, eqb}
 use Rattle.kinds.specs.Number as kind
 use Rattle.kinds.specs.Kinds.{isTrivia}
@@ -10,7 +10,7 @@ use Rattle.cursor.specs.declared.Span.{Span}
 use Rattle.cursor.specs.declared.Ranged.{Ranged}
 use Rattle.cursor.specs.declared.Ranged.the-variants as ranged
 use Rattle.cursor.specs.Sheet.{Sheet, count, kindAt, rangeAt}
-use Rattle.cursor.specs.Rule.{World, Stop, refused, Out, done, failed, Rule, _>>=_, _>>_, give, ifSo, Next, more, stop, Turn, iterate}
+use Rattle.cursor.specs.Rule.{refused, Out, done, failed, Rule, _>>=_, _>>_, give, Next, more, stop, Turn, iterate}
 
 -- the first place from i on whose token is no trivia, among at most so many
 unfoldable pub pastFrom : List ℕ → ℕ → ℕ → ℕ

@@ -1,5 +1,5 @@
 -- Each way through the rules that use up a level, and through a whole sheet.
-use mathlib.Core.Path.{_≡_, refl, sym, ap, _∙_}
+use mathlib.Core.Path.{_≡_, refl, _∙_}
 use mathlib.Core.Bool.{Bool, true, false}
 use Prim.Native.Nat.{ℕ, zero, suc, _-_, max}
 use native.Mathlib.Numerals.{sub-one}
@@ -8,7 +8,7 @@ use Rattle.cursor.specs.declared.State.{State}
 use Rattle.cursor.specs.declared.Kids.{Kids}
 use Rattle.cursor.specs.Node as node
 use Rattle.cursor.specs.Sheet.{Sheet, rangeAt}
-use Rattle.cursor.specs.Rule.{World, Stop, refused, Out, done, failed, Rule, give, Next, more, stop, iterate}
+use Rattle.cursor.specs.Rule.{World, Stop, refused, Out, done, failed, stop, iterate}
 use Rattle.cursor.specs.Tokens.{startOf, eatEol}
 use Rattle.cursor.specs.Checks.{eat}
 use Rattle.cursor.specs.Records.{append, noKids, flagged}

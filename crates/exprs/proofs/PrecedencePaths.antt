@@ -1,9 +1,9 @@
 -- Each way through the rules on operators, unary forms and `try`, as the code goes through them.
-use mathlib.Core.Path.{_≡_, refl, sym, ap, _∙_}
+use mathlib.Core.Path.{_≡_, refl, _∙_}
 use mathlib.Core.Bool.{Bool, true, false}
-use mathlib.Core.List.{List, [], _∷_}
+use mathlib.Core.List.{[], _∷_}
 use mathlib.Core.Logic.{inl, inr}
-use Prim.Native.Nat.{ℕ, zero, suc, _+_, _<_, _≤_}
+use Prim.Native.Nat.{ℕ, _+_, _<_, _≤_}
 use native.Mathlib.Omega.{arith}
 use types.Run.{OneOf}
 use denote.Enum.Declared.{tagOf}
@@ -20,7 +20,7 @@ use Rattle.cursor.specs.declared.Span.{Span}
 use Rattle.cursor.specs.declared.Ranged.{Ranged}
 use Rattle.cursor.specs.Node as node
 use Rattle.cursor.specs.Sheet.{kindAt, rangeAt}
-use Rattle.cursor.specs.Rule.{World, Stop, fault, Out, done, failed, Next, more, stop, iterate}
+use Rattle.cursor.specs.Rule.{World, Stop, fault, done, failed, more, stop, iterate}
 use Rattle.cursor.specs.Tokens.{startOf, bump}
 use Rattle.cursor.specs.Checks.{check, expect, pick}
 use Rattle.cursor.specs.Records.{add}

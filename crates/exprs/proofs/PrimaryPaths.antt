@@ -1,13 +1,13 @@
 -- Each way through the rules on calls and members, as the code goes through them.
-use mathlib.Core.Path.{_≡_, refl, sym, ap, _∙_}
+use mathlib.Core.Path.{_≡_, _∙_}
 use mathlib.Core.Bool.{Bool, true, false}
-use Prim.Native.Nat.{ℕ, zero, suc, _<_, _≤_}
+use Prim.Native.Nat.{ℕ, _<_, _≤_}
 use borrow.Author.Tests.{lt-ltb, le-ltb}
 use Rattle.kinds.specs.Number as kind
 use Rattle.cursor.specs.declared.State.{State}
 use Rattle.cursor.specs.declared.Ranged.{Ranged}
 use Rattle.cursor.specs.Node as node
-use Rattle.cursor.specs.Rule.{World, Stop, Out, done, failed}
+use Rattle.cursor.specs.Rule.{World, Stop, done, failed}
 use Rattle.cursor.specs.Tokens.{bump}
 use Rattle.cursor.specs.Checks.{eat, expect, eatRange, pick}
 use Rattle.types.specs.declared.items.Items.{Items}

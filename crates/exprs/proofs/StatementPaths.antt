@@ -1,11 +1,10 @@
 -- Each way through the rules on statements and their parts: expressions as links, blocks, functions, assignments.
-use mathlib.Core.Path.{_≡_, refl, sym, ap, _∙_}
+use mathlib.Core.Path.{_≡_, refl, sym, _∙_}
 use mathlib.Core.Bool.{Bool, true, false}
-use Prim.Native.Nat.{ℕ, zero, suc, _<_, _≤_}
-use mathlib.Core.List.{List, [], _∷_}
+use Prim.Native.Nat.{ℕ, _<_, _≤_}
+use mathlib.Core.List.{[], _∷_}
 use mathlib.Core.Logic.{_⊎_, inl, inr}
 use native.Mathlib.Omega.{arith}
-use lib.Dec.{ltb, eqb}
 use types.Run.{OneOf}
 use denote.Enum.Declared.{tagOf}
 use borrow.Author.Tests.{eq-eqb, ne-eqb, lt-ltb, le-ltb}
@@ -17,15 +16,15 @@ use Rattle.cursor.specs.declared.Fault.{Fault}
 use Rattle.cursor.specs.declared.Ranged.{Ranged}
 use Rattle.cursor.specs.declared.Ranged.the-variants as ranged
 use Rattle.cursor.specs.Node as node
-use Rattle.cursor.specs.Sheet.{Sheet, rangeAt}
-use Rattle.cursor.specs.Rule.{World, Stop, fault, Out, done, failed, Rule, give, Next, more, stop, iterate}
+use Rattle.cursor.specs.Sheet.{rangeAt}
+use Rattle.cursor.specs.Rule.{World, Stop, fault, done, failed, give, more, stop, iterate}
 use Rattle.cursor.specs.Tokens.{startOf, bump}
-use Rattle.cursor.specs.Checks.{check, eat, expect, eatRange, pick, unexpected, unexpectedAt}
+use Rattle.cursor.specs.Checks.{check, expect, eatRange, pick, unexpected, unexpectedAt}
 use Rattle.cursor.specs.Records.{add, flagged}
 use Rattle.cursor.specs.Attempts.{attempt}
 use Rattle.types.specs.declared.items.Items.{Items}
 use Rattle.types.specs.Lits.{ident}
-use Rattle.types.specs.Items.{start, close, pair}
+use Rattle.types.specs.Items.{close, pair}
 use Rattle.types.specs.Types.{type, returns, named, typedIdent}
 use Rattle.types.proofs.TypePaths.{starts}
 use Rattle.parts.specs.declared.values.Expr.{Expr}

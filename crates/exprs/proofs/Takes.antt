@@ -24,24 +24,21 @@ use Rattle.cursor.proofs.Spends.{Spends, Feeds, Further, takes, always, spares,
 use Rattle.cursor.proofs.Spent.{Found, bump-feeds, eat-spends, expect-spends, eat-range-spends, pick-spends, unexpected-spends}
 use Rattle.types.specs.declared.items.Items.{Items}
 use Rattle.types.specs.Items.{afterItem, oneItem, isEnded}
-use Rattle.types.specs.Patterns.{patterns}
-use Rattle.types.proofs.PatternKeeps.{patterns-keep}
 use Rattle.parts.specs.declared.values.Expr.{Expr}
 use Rattle.parts.specs.Values.{linkOf, rowOf}
 use Rattle.exprs.specs.Inner.{Inner}
-use Rattle.parts.specs.Steps.{noMember, nameTurn, patternTurn}
+use Rattle.parts.specs.Steps.{noMember}
 use Rattle.parts.specs.Until.{untilTurn}
 use Rattle.exprs.specs.Tables.{item}
 use Rattle.exprs.specs.Primary.{memberChain, access, postfixTurn}
 use Rattle.exprs.specs.Atoms.{caseTurn}
 use Rattle.exprs.specs.Precedence.{handlerTurn, infixBy, infixTurn}
-use Rattle.parts.specs.Imports.{importItem, pathTurn}
 use Rattle.exprs.specs.Statements.{leftOf, leftTurn, rightTurn}
 use Rattle.exprs.specs.Levels.{levels}
 use Rattle.exprs.proofs.Stays.{add-stays, Stays, expr-stays}
-use Rattle.exprs.proofs.RecordStays.{call-record-stays, member-record-stays, braced-stays, name-turn-starts}
+use Rattle.exprs.proofs.RecordStays.{call-record-stays, member-record-stays, braced-stays}
 use Rattle.exprs.proofs.ExprStays.{block-starts, item-stays, member-opens, call-stays, match-case-starts, handler-turn-starts, operated-stays}
-use Rattle.exprs.proofs.StmtStays.{import-item-stays, path-turn-starts, left-of-stays, knot-stays}
+use Rattle.exprs.proofs.StmtStays.{left-of-stays, knot-stays}
 
 -- one rule or the other, where a token stands
 pub either-feeds : {A : Type 0} {e : Sheet} {W : A → Type 0} {r q : Rule A} (b : Bool) → Feeds e W r → Feeds e W q → Feeds e W (ifSo r q b)

@@ -2,7 +2,7 @@
 -- is what they leave in the lent buffers, unless the whole reading was refused (cursor's Told). `Post` is the contract as the check reads it
 -- from the source.
 -- Assumes nothing.
-use Rattle.cursor.specs.Rule.{World, world}
+use Rattle.cursor.specs.Rule.{world}
 use Rattle.cursor.specs.Answers.{asBuilt}
 use Rattle.cursor.proofs.Told.{built}
 use Rattle.parts.specs.Answers.{asParsed, asRowed}

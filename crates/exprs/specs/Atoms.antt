@@ -7,7 +7,7 @@ use Rattle.kinds.specs.Number as kind
 use Rattle.cursor.specs.declared.Kids.{Kids}
 use Rattle.cursor.specs.declared.Ranged.the-variants as ranged
 use Rattle.cursor.specs.Node as node
-use Rattle.cursor.specs.Rule.{World, Out, Rule, _>>=_, _>>_, give, ifSo, Next, more, stop, Turn, iterate}
+use Rattle.cursor.specs.Rule.{Rule, _>>=_, _>>_, give, ifSo, more, stop, Turn, iterate}
 use Rattle.cursor.specs.Tokens.{bump, eatEol}
 use Rattle.cursor.specs.Checks.{check, eat, expect, pick}
 use Rattle.cursor.specs.Records.{add, noKids, flagged}

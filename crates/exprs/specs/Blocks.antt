@@ -1,9 +1,9 @@
 -- Blocks: parse_block and parse_expr_and_block.
 use Prim.Native.Nat.{ℕ}
-use mathlib.Core.Bool.{true, false}
+use mathlib.Core.Bool.{false}
 use Rattle.kinds.specs.Number as kind
 use Rattle.cursor.specs.declared.Kids.{Kids}
-use Rattle.cursor.specs.Rule.{World, Out, Rule, _>>=_, _>>_, give}
+use Rattle.cursor.specs.Rule.{Rule, _>>=_, _>>_}
 use Rattle.cursor.specs.Checks.{expect}
 use Rattle.cursor.specs.Records.{add}
 use Rattle.types.specs.Items.{start}

@@ -1,21 +1,14 @@
 -- Statements in a row: parse_exprs.
 use Prim.Native.Nat.{ℕ}
-use mathlib.Core.List.{List, [], _∷_}
-use mathlib.Core.Bool.{Bool, true, false}
-use lib.Dec.{ltb}
-use Rattle.kinds.specs.Number as kind
-use Rattle.cursor.specs.declared.State.{State}
+use mathlib.Core.List.{_∷_}
 use Rattle.cursor.specs.declared.Kids.{Kids}
-use Rattle.cursor.specs.Sheet.{Sheet}
-use Rattle.cursor.specs.Rule.{World, Stop, fault, refused, Out, done, failed, Rule, _>>=_, _>>_, orElse, give, ifSo, Next, more, stop, Turn, iterate}
-use Rattle.cursor.specs.Tokens.{bump, eatEol, rewind}
-use Rattle.cursor.specs.Checks.{check, eat, expect, pick, unexpectedAt}
-use Rattle.cursor.specs.Records.{log, noKids}
-use Rattle.cursor.specs.Attempts.{unbuilt, recover}
-use Rattle.types.specs.Items.{addSome}
+use Rattle.cursor.specs.Rule.{Rule, _>>=_, _>>_, give, ifSo, stop, Turn, iterate}
+use Rattle.cursor.specs.Tokens.{eatEol}
+use Rattle.cursor.specs.Checks.{eat}
+use Rattle.cursor.specs.Records.{noKids}
+use Rattle.cursor.specs.Attempts.{recover}
 use Rattle.parts.specs.Recovery.{skipped, afterStmt}
 use Rattle.exprs.specs.Inner.{Inner}
-use Rattle.parts.specs.When.{when}
 use Rattle.exprs.specs.Statements.{stmt}
 
 module _ (r : Inner) where

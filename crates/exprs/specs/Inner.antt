@@ -1,10 +1,9 @@
 -- What every rule on expressions is handed, and the expression itself.
 use Prim.Native.Nat.{ℕ}
-use mathlib.Core.Bool.{Bool, true, false}
+use mathlib.Core.Bool.{Bool}
 use Rattle.cursor.specs.declared.Kids.{Kids}
-use Rattle.cursor.specs.declared.Fault.{Fault}
 use Rattle.cursor.specs.Sheet.{Sheet}
-use Rattle.cursor.specs.Rule.{World, fault, Out, failed, Rule, _>>=_, give, ifSo}
+use Rattle.cursor.specs.Rule.{Rule, _>>=_, give}
 use Rattle.parts.specs.declared.values.Expr.{Expr}
 use Rattle.parts.specs.Values.{linkOf}
 

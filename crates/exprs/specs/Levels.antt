@@ -1,12 +1,12 @@
 -- The knot: the rules on expressions with so many levels left, and a whole sheet.
 use Prim.Native.Nat.{ℕ, zero, suc, max}
 use mathlib.Core.List.{List}
-use mathlib.Core.Bool.{Bool, true, false}
+use mathlib.Core.Bool.{Bool, false}
 use Rattle.kinds.specs.Number as kind
 use Rattle.cursor.specs.declared.Kids.{Kids}
 use Rattle.cursor.specs.Node as node
 use Rattle.cursor.specs.Sheet.{Sheet, sheet}
-use Rattle.cursor.specs.Rule.{World, Out, Rule, _>>=_, _>>_, refuse}
+use Rattle.cursor.specs.Rule.{Rule, _>>=_, _>>_, refuse}
 use Rattle.cursor.specs.Records.{append, flagged}
 use Rattle.types.specs.Items.{start}
 use Rattle.types.specs.Types.{atoms}

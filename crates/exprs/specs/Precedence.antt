@@ -1,7 +1,7 @@
 -- Levels of operators, unary forms and `try`: parse_expr_precedence and parse_expr_unary.
 use Prim.Native.Nat.{ℕ, _+_}
 use mathlib.Core.List.{List, [], _∷_}
-use mathlib.Core.Bool.{Bool, true, false}
+use mathlib.Core.Bool.{Bool}
 use lib.Dec.{ltb, eqb}
 use Rattle.kinds.specs.Number as kind
 use Rattle.kinds.specs.declared.operator.Operator.{Operator}
@@ -10,8 +10,8 @@ use Rattle.kinds.specs.Operators.{binaryOf, precedenceOf}
 use Rattle.cursor.specs.declared.Kids.{Kids}
 use Rattle.cursor.specs.declared.Span.{Span}
 use Rattle.cursor.specs.Node as node
-use Rattle.cursor.specs.Sheet.{Sheet, kindAt, rangeAt}
-use Rattle.cursor.specs.Rule.{World, Out, Rule, _>>=_, _>>_, give, ifSo, Next, more, stop, Turn, iterate}
+use Rattle.cursor.specs.Sheet.{kindAt, rangeAt}
+use Rattle.cursor.specs.Rule.{Rule, _>>=_, _>>_, give, ifSo, Next, more, stop, Turn, iterate}
 use Rattle.cursor.specs.Tokens.{bump}
 use Rattle.cursor.specs.Checks.{check, expect, pick}
 use Rattle.cursor.specs.Records.{add}

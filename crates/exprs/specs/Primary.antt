@@ -1,12 +1,11 @@
 -- Calls and members: parse_expr_primary. The atom's rule is handed over.
 use Prim.Native.Nat.{ℕ}
 use mathlib.Core.List.{List, [], _∷_}
-use mathlib.Core.Bool.{Bool, true, false}
+use mathlib.Core.Bool.{Bool, true}
 use lib.Dec.{ltb}
 use Rattle.kinds.specs.Number as kind
-use Rattle.cursor.specs.declared.Ranged.{Ranged}
 use Rattle.cursor.specs.Node as node
-use Rattle.cursor.specs.Rule.{World, Out, Rule, _>>=_, _>>_, give, ifSo, Next, more, stop, Turn, iterate}
+use Rattle.cursor.specs.Rule.{Rule, _>>=_, _>>_, give, ifSo, Next, Turn, iterate}
 use Rattle.cursor.specs.Tokens.{bump}
 use Rattle.cursor.specs.Checks.{eat, expect, eatRange, pick}
 use Rattle.types.specs.Lits.{ident}

@@ -1,17 +1,16 @@
 -- Lists of items, and what `{` opens where an expression may begin: parse_items_until, parse_table_key_and_colon, parse_table_property.
 use Prim.Native.Nat.{ℕ}
-use mathlib.Core.Bool.{Bool, true, false}
+use mathlib.Core.Bool.{true}
 use lib.Dec.{eqb}
 use Rattle.kinds.specs.Number as kind
 use Rattle.cursor.specs.declared.Kids.{Kids}
 use Rattle.cursor.specs.Node as node
-use Rattle.cursor.specs.Sheet.{Sheet}
-use Rattle.cursor.specs.Rule.{World, Out, Rule, _>>=_, _>>_, give, ifSo, Next, more, stop, Turn, iterate}
+use Rattle.cursor.specs.Rule.{Rule, _>>=_, _>>_, ifSo}
 use Rattle.cursor.specs.Tokens.{bump, eatEol}
 use Rattle.cursor.specs.Checks.{eat, expect}
 use Rattle.cursor.specs.Attempts.{attempt}
 use Rattle.types.specs.declared.items.Items.{Items}
-use Rattle.types.specs.Items.{start, close, pair, so, oneItem}
+use Rattle.types.specs.Items.{start, close, pair}
 use Rattle.parts.specs.Values.{rowWith}
 use Rattle.parts.specs.Until.{itemsUntil}
 use Rattle.exprs.specs.Inner.{Inner, expr}

@@ -13,19 +13,18 @@ use lib.ListN.{length}
 use borrow.Author.Tests.{le-ltb}
 use Rattle.kinds.specs.declared.operator.BinOp.{BinOp}
 use Rattle.kinds.specs.declared.operator.BinOp.the-variants as op
-use Rattle.kinds.specs.declared.operator.Operator.the-variants.{Binary, Nothing}
+use Rattle.kinds.specs.declared.operator.Operator.the-variants.{Binary}
 use Rattle.kinds.specs.declared.types.ValueType.{ValueType}
 use Rattle.kinds.specs.declared.types.ValueType.the-variants as type
-use Rattle.kinds.specs.declared.types.TypeWord.{TypeWord}
 use Rattle.kinds.specs.declared.types.TypeWord.the-variants.{Known, Unknown}
 use Rattle.kinds.specs.Number as kind
 use Rattle.kinds.specs.Spelling.{bytes, choose, equal}
 use Rattle.kinds.specs.Kinds.{order, kindNumber, isTrivia}
-use Rattle.kinds.specs.Operators.{binaryOf, compoundOf, levelOf, opKind, caseOf}
+use Rattle.kinds.specs.Operators.{binaryOf, levelOf, opKind, caseOf}
 use Rattle.kinds.specs.Listing.{listingName, namePlace, nameBytes, nameAt}
 use Rattle.kinds.specs.Row.{flag}
 use Rattle.kinds.specs.TypeWords.{typeWord, words, wordIn, typeNumber, typeNames, typeNamePlace}
-use Rattle.kinds.proofs.Every.{every, at}
+use Rattle.kinds.proofs.Every.{at}
 use Rattle.kinds.proofs.Rest.{past}
 use Rattle.kinds.proofs.Parts.{equal-same}
 

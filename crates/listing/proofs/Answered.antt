@@ -2,13 +2,13 @@
 -- Assumes nothing.
 use mathlib.Core.Path.{_≡_, refl, sym, ap, _∙_}
 use mathlib.Core.List.{List, [], _∷_, _++_}
-use Prim.Native.Nat.{ℕ, zero, suc, _+_, _<_, _≤_, min}
+use Prim.Native.Nat.{ℕ, _+_, _<_, _≤_, min}
 use native.Mathlib.Omega.{arith}
-use lib.ListN.{length, drop}
+use lib.ListN.{length}
 use borrow.Author.Tests.{le-leb, lt-leb}
 use Rattle.listing.specs.declared.page.Pen.{Pen}
 use Rattle.listing.specs.Page.{Page, page, emits}
-use Rattle.listing.specs.Answers.{Outcome, wrote, short, written}
+use Rattle.listing.specs.Answers.{wrote, short, written}
 use Rattle.listing.proofs.Pages.{emits-pen, emits-front}
 
 -- what was lent of the buffer, none of it, in front of the rest

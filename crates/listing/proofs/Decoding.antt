@@ -2,14 +2,14 @@
 -- Assumes nothing.
 use mathlib.Core.Path.{_≡_, refl, sym, ap, _∙_}
 use mathlib.Core.List.{List, [], _∷_, _++_, append-assoc}
-use mathlib.Core.Bool.{Bool, true, false}
+use mathlib.Core.Bool.{true, false}
 use Prim.Native.Nat.{ℕ, zero, suc, _+_, _-_, _*_, _/_, _<_, _≤_}
 use native.Mathlib.Omega.{arith}
 use native.Mathlib.Numerals.{add-one}
-use lib.ListN.{length, getD, set, take, drop, length-take, length-drop, length-append}
+use lib.ListN.{length, getD, set, take, drop, length-drop, length-append}
 use lib.Seq.{drop-cons, take-suc, getD-drop, set-at, length-take-le}
 use borrow.Author.Tests.{le-leb, lt-leb, eq-eqb, ne-eqb}
-use Rattle.listing.specs.Bundle.{little, tokensAt, textCount, tokenCount, also, fits, Outcome, sheet, refused, copied, tokenWords, decodedInto}
+use Rattle.listing.specs.Bundle.{little, tokensAt, textCount, tokenCount, fits, sheet, refused, copied, tokenWords, decodedInto}
 
 -- one more element behind the n that stand at the buffer's front
 pub front-on : (xs buffer : List ℕ) (n a : ℕ) → length xs ≡ n → n < length buffer → set (xs ++ drop n buffer) n a ≡ (xs ++ (a ∷ [])) ++ drop (n + 1) buffer

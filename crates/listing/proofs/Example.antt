@@ -4,16 +4,14 @@ use Prim.Native.Nat.{ℕ, _^_, _-_}
 use Prim.Native.String.{String}
 use mathlib.Core.List.{List, [], _∷_, _++_}
 use mathlib.Core.Path.{_≡_, refl}
-use lib.Dec.{ltb}
 use Rattle.kinds.specs.Spelling.{bytes}
 use Rattle.kinds.specs.Listing.{listingName}
 use Rattle.cursor.specs.Tree.{word, label, trees, meaning}
-use Rattle.listing.specs.declared.list.Counts.{Counts}
 use Rattle.listing.specs.Decimal.{digitsIn, digits, decimal, integer}
 use Rattle.listing.specs.Names.{recordName, unaryName, binaryName, typeName, detailName}
 use Rattle.listing.specs.Lines.{fields, detail, nodeLine, found, errorLine, firstLine, refusalLine}
 use Rattle.listing.specs.Listing.{rows, rowLines, nodeLines, errorsFrom, errorLines, listingOf}
-use Rattle.listing.specs.Bundle.{tokenBytes, bundleOf, little, tokensAt, fits, Outcome, sheet, copied, tokenWords, decodedInto}
+use Rattle.listing.specs.Bundle.{tokenBytes, bundleOf, little, tokensAt, fits, sheet, copied, tokenWords, decodedInto}
 
 -- lines, each with its newline
 abbrev lines : List String → List ℕ

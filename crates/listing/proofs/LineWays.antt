@@ -12,10 +12,10 @@ use Rattle.kinds.specs.Spelling.{bytes}
 use Rattle.cursor.specs.declared.Label.{Label}
 use Rattle.listing.specs.declared.names.Word.{Word}
 use Rattle.listing.specs.declared.names.Word.the-variants.{At, Nothing}
-use Rattle.listing.specs.Page.{Page, page, emit, emits}
+use Rattle.listing.specs.Page.{Page, emits}
 use Rattle.listing.specs.Decimal.{decimal, integer}
 use Rattle.listing.specs.Names.{nameFrom, recordName, detailName, wordOf}
-use Rattle.listing.specs.Lines.{fields, line, detail, nodeLine, found, errorWord, kindsOf, errorLine, firstLine, refusalLine}
+use Rattle.listing.specs.Lines.{fields, detail, nodeLine, found, errorWord, errorLine, firstLine, refusalLine}
 use Rattle.listing.proofs.Pages.{emits-append, andThen}
 use Rattle.listing.proofs.Written.{told, field, alsoFields}
 

@@ -1,6 +1,6 @@
 -- How long a listing can be: its lines are bounded, and so are their numbers.
 -- Assumes nothing.
-use mathlib.Core.Path.{_≡_, refl, sym, ap, _∙_}
+use mathlib.Core.Path.{_≡_, refl, _∙_}
 use mathlib.Core.Bool.{Bool, true, false}
 use mathlib.Core.List.{List, [], _∷_, _++_, map}
 use Prim.Native.Nat.{ℕ, zero, suc, _+_, _-_, _*_, _/_, _%_, _^_, _<_, _≤_, min}
@@ -8,8 +8,8 @@ use native.Mathlib.Decide.{decLt}
 use native.Mathlib.Nat.{pow-succ', mul-suc, mul-le-mul-left}
 use native.Mathlib.Omega.{arith}
 use lib.Dec.{T, leb, leb→le, ltb, eqb}
-use lib.ListN.{length, getD, take, drop, length-append, length-map, length-take, length-drop, List·getD-eq-default}
-use borrow.Author.Tests.{ltb-true, ltb-false, lt-ltb, le-ltb}
+use lib.ListN.{length, getD, take, drop, length-append, length-take, length-drop, List·getD-eq-default}
+use borrow.Author.Tests.{ltb-true, ltb-false}
 use Rattle.kinds.specs.Spelling.{bytes, choose}
 use Rattle.kinds.specs.Listing.{listingName}
 use Rattle.kinds.specs.TypeWords.{typeNames}
@@ -17,9 +17,9 @@ use Rattle.kinds.proofs.Every.{every, at}
 use Rattle.kinds.proofs.Rest.{past}
 use Rattle.cursor.specs.declared.Label.{Label}
 use Rattle.cursor.specs.Layout.{FIRST, NEXT}
-use Rattle.cursor.specs.Tree.{Trees, none, node, tree, word, label, trees, meaning}
+use Rattle.cursor.specs.Tree.{word, label, trees, meaning}
 use Rattle.listing.specs.declared.list.Counts.{Counts}
-use Rattle.listing.specs.Decimal.{digits, decimal, integer}
+use Rattle.listing.specs.Decimal.{decimal, integer}
 use Rattle.listing.specs.Names.{recordNames, recordName, unaryName, binaryName, typeName, detailName}
 use Rattle.listing.specs.Lines.{fields, detail, nodeLine, found, errorWord, kindsOf, errorLine, firstLine}
 use Rattle.listing.specs.Listing.{rows, rowLines, nodeLines, errorsFrom, errorLines, listingOf}

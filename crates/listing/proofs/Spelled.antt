@@ -1,19 +1,18 @@
 -- A name, one byte at a time, and that each place leads to the name that it is kept for: computed tests over the tables.
 -- Assumes nothing.
-use Prim.Native.Nat.{ℕ, suc, _+_, _<_, _≤_}
+use Prim.Native.Nat.{ℕ, _+_, _<_, _≤_}
 use native.Mathlib.Decide.{decLt}
 use native.Mathlib.Numerals.{add-one}
 use native.Mathlib.Omega.{arith}
 use mathlib.Core.Bool.{Bool, true, false}
 use mathlib.Core.List.{List, [], _∷_, _++_}
 use mathlib.Core.Path.{_≡_, refl, sym, _∙_}
-use lib.Dec.{T, eqb}
-use lib.ListN.{length, getD, drop, drop-of-length-le, List·getD-eq-default, List·getD-append}
+use lib.Dec.{T}
+use lib.ListN.{length, getD, drop-of-length-le, List·getD-eq-default, List·getD-append}
 use lib.Seq.{drop-cons, getD-append-add}
 use borrow.Author.Tests.{eq-eqb, ne-eqb}
-use Rattle.kinds.specs.Spelling.{bytes, equal}
-use Rattle.kinds.specs.Kinds.{kindName}
-use Rattle.kinds.specs.Listing.{listingName, namePlace, nameBytes, upToSpace}
+use Rattle.kinds.specs.Spelling.{equal}
+use Rattle.kinds.specs.Listing.{listingName, namePlace, nameBytes}
 use Rattle.kinds.specs.TypeWords.{typeNames, typeNamePlace}
 use Rattle.kinds.proofs.Every.{every, at, entry}
 use Rattle.kinds.proofs.Parts.{equal-same}

@@ -3,15 +3,12 @@
 use mathlib.Core.Path.{_≡_, refl, sym, ap, _∙_}
 use mathlib.Core.List.{List, [], _∷_, _++_, append-assoc, append-nil}
 use Prim.Native.Nat.{ℕ, zero, suc, _+_, _-_, _*_, _/_, _<_, _≤_, min}
-use native.Mathlib.Numerals.{add-one}
 use native.Mathlib.Omega.{arith}
-use lib.ListN.{length, getD, take, drop, length-take, length-append}
-use lib.Seq.{take-nil}
+use lib.ListN.{length, getD, take, length-take, length-append}
 use Rattle.cursor.specs.declared.Label.{Label}
-use Rattle.cursor.specs.Layout.{nodeWords, FIRST, NEXT}
-use Rattle.cursor.specs.Tree.{Trees, none, node, word, label, trees, meaning}
-use Rattle.listing.specs.declared.page.Pen.{Pen}
-use Rattle.listing.specs.Page.{Page, page, emits}
+use Rattle.cursor.specs.Layout.{FIRST, NEXT}
+use Rattle.cursor.specs.Tree.{word, label, trees, meaning}
+use Rattle.listing.specs.Page.{Page, emits}
 use Rattle.listing.specs.Lines.{nodeLine, errorLine}
 use Rattle.listing.specs.Listing.{rows, rowLines, rowsFrom, nodeLines, errorsFrom, errorLines}
 use Rattle.listing.proofs.Pages.{andThen}

@@ -1,9 +1,9 @@
 -- Each way through the functions that write numbers, fields and lines.
 -- Assumes nothing.
-use mathlib.Core.Path.{_≡_, refl, sym, ap, _∙_}
+use mathlib.Core.Path.{_≡_, refl, _∙_}
 use mathlib.Core.List.{List, [], _∷_, _++_, append-assoc, append-nil}
-use Prim.Native.Nat.{ℕ, suc, _+_, _-_, _*_, _/_, _%_, _^_, _<_, _≤_}
-use Rattle.listing.specs.Page.{Page, page, emit, emits}
+use Prim.Native.Nat.{ℕ, _+_, _-_, _*_, _/_, _%_, _^_, _<_, _≤_}
+use Rattle.listing.specs.Page.{Page, emits}
 use Rattle.listing.specs.Decimal.{decimal, integer}
 use Rattle.listing.specs.Names.{nameFrom}
 use Rattle.listing.specs.Lines.{fields}

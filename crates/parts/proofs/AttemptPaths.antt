@@ -1,7 +1,7 @@
 -- Each way through an attempt: its node is kept; or it is undone, and the other rule starts over; or a refusal ends the whole reading.
-use mathlib.Core.Path.{_≡_, refl, sym, _∙_}
+use mathlib.Core.Path.{_≡_, refl, _∙_}
 use Rattle.cursor.specs.declared.State.{State}
-use Rattle.cursor.specs.Rule.{World, Stop, fault, refused, Out, done, failed, Rule, bind, orElse}
+use Rattle.cursor.specs.Rule.{World, Stop, fault, refused, done, failed, Rule, bind, orElse}
 use Rattle.cursor.specs.Tokens.{rewind}
 use Rattle.cursor.specs.Attempts.{attempt}
 use Rattle.parts.specs.Recovery.{undo}

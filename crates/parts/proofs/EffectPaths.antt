@@ -1,5 +1,5 @@
 -- Each way through the statement `effect`.
-use mathlib.Core.Path.{_≡_, refl, sym, ap, _∙_}
+use mathlib.Core.Path.{_≡_, _∙_}
 use mathlib.Core.Bool.{Bool, false}
 use Prim.Native.Nat.{ℕ}
 use lib.Dec.{ltb}
@@ -10,7 +10,7 @@ use Rattle.cursor.specs.declared.Span.{Span}
 use Rattle.cursor.specs.declared.Ranged.{Ranged}
 use Rattle.cursor.specs.Node as node
 use Rattle.cursor.specs.Sheet.{Sheet, rangeAt}
-use Rattle.cursor.specs.Rule.{World, Stop, Out, done, failed, Rule}
+use Rattle.cursor.specs.Rule.{World, Stop, done, failed, Rule}
 use Rattle.cursor.specs.Tokens.{startOf}
 use Rattle.cursor.specs.Checks.{expect}
 use Rattle.cursor.specs.Records.{add, noKids, flagged}

@@ -1,6 +1,6 @@
 -- Each way through the rules of `import`.
 use mathlib.Core.Path.{_≡_, refl}
-use mathlib.Core.Bool.{Bool, true, false}
+use mathlib.Core.Bool.{true, false}
 use Prim.Native.Nat.{ℕ, _<_, _≤_}
 use borrow.Author.Tests.{eq-eqb, ne-eqb, lt-ltb, le-ltb}
 use Rattle.kinds.specs.Number as kind
@@ -9,7 +9,7 @@ use Rattle.cursor.specs.declared.Kids.{Kids}
 use Rattle.cursor.specs.declared.Fault.{Fault}
 use Rattle.cursor.specs.Node as node
 use Rattle.cursor.specs.Sheet.{Sheet, rangeAt}
-use Rattle.cursor.specs.Rule.{World, Stop, fault, Out, done, failed, Next, more, stop, iterate}
+use Rattle.cursor.specs.Rule.{World, Stop, fault, done, failed, more, stop, iterate}
 use Rattle.cursor.specs.Tokens.{startOf, bump}
 use Rattle.cursor.specs.Checks.{check, eat, pick, unexpected, unexpectedAt}
 use Rattle.cursor.specs.Records.{add, noKids, flagged}

@@ -1,17 +1,15 @@
 -- What the rules of `import` keep, and that each name of a path takes a token.
 use mathlib.Core.Path.{_≡_, refl}
-use mathlib.Core.Bool.{Bool, true, false}
 use Prim.Native.Nat.{ℕ}
 use lib.Dec.{ltb, eqb}
 use Rattle.kinds.specs.Number as kind
-use Rattle.cursor.specs.declared.State.{State}
 use Rattle.cursor.specs.declared.Kids.{Kids}
 use Rattle.cursor.specs.declared.Ranged.{Ranged}
 use Rattle.cursor.specs.declared.Ranged.the-variants as ranged
 use Rattle.cursor.specs.Node as node
 use Rattle.cursor.specs.Sheet.{Sheet, rangeAt}
-use Rattle.cursor.specs.Rule.{World, Out, Rule, _>>=_, _>>_, give, ifSo, Next, more, stop}
-use Rattle.cursor.specs.Records.{add, noKids, flagged}
+use Rattle.cursor.specs.Rule.{_>>=_, _>>_}
+use Rattle.cursor.specs.Records.{noKids}
 use Rattle.cursor.proofs.Loops.{Takes}
 use Rattle.cursor.proofs.Keeps.{Mark, Keeps, Plain, Nexts, ground, gives, ifs, plain, binds, thens, loops}
 use Rattle.cursor.proofs.Kept.{bump-keeps, check-keeps, eat-keeps, unexpected-keeps, pick-keeps, append-keeps, add-keeps, nothing, Fresh, RowFor, fresh-mine, ground-mine}

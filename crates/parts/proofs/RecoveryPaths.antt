@@ -1,7 +1,7 @@
 -- Each way through an undone attempt, through recovery, and through what follows a statement.
-use mathlib.Core.Path.{_≡_, refl, sym, ap, _∙_}
-use mathlib.Core.Bool.{Bool, true, false}
-use mathlib.Core.List.{List, [], _∷_}
+use mathlib.Core.Path.{_≡_, refl, sym, _∙_}
+use mathlib.Core.Bool.{true, false}
+use mathlib.Core.List.{[], _∷_}
 use Prim.Native.Nat.{ℕ, _<_, _≤_}
 use borrow.Author.Tests.{lt-ltb, le-ltb}
 use Rattle.kinds.specs.Number as kind
@@ -11,7 +11,7 @@ use Rattle.cursor.specs.declared.Fault.{Fault}
 use Rattle.cursor.specs.declared.Failure.{Failure}
 use Rattle.cursor.specs.declared.Failure.the-variants as failures
 use Rattle.cursor.specs.Sheet.{Sheet}
-use Rattle.cursor.specs.Rule.{World, Stop, fault, refused, Out, done, failed, Next, more, stop, iterate}
+use Rattle.cursor.specs.Rule.{World, Stop, fault, refused, Out, done, failed, more, stop, iterate}
 use Rattle.cursor.specs.Tokens.{bump, eatEol, rewind}
 use Rattle.cursor.specs.Checks.{check, eat, expect, pick, unexpectedAt}
 use Rattle.cursor.specs.Records.{log}

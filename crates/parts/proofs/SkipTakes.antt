@@ -1,5 +1,5 @@
 -- Each turn of skipping takes a token: Eof is among the kinds that stop it, so where none of them stands here a token does.
-use mathlib.Core.Path.{_≡_, refl, sym, ap, _∙_}
+use mathlib.Core.Path.{_≡_, refl, sym, _∙_}
 use mathlib.Core.Bool.{Bool, true, false}
 use mathlib.Core.List.{List, [], _∷_}
 use Prim.Native.Nat.{ℕ, suc, _+_, _<_, _≤_}
@@ -14,11 +14,9 @@ use Rattle.cursor.specs.Rule.{World, Out, give, ifSo}
 use Rattle.cursor.specs.Checks.{liveRoom, want, check, pickFrom}
 use Rattle.cursor.proofs.Ends.{Ends, well, cut, Any, branch, then, weaken}
 use Rattle.cursor.proofs.Loops.{Takes}
-use Rattle.cursor.proofs.Keeps.{Mark, Keeps, Plain, Nexts, gives, ifs, binds, thens, loops}
-use Rattle.cursor.proofs.Kept.{bump-keeps, pick-keeps}
 use Rattle.cursor.proofs.Spends.{takes}
 use Rattle.cursor.proofs.TokenPaths.{there, bump-takes}
-use Rattle.parts.specs.Recovery.{skipTurn, skip}
+use Rattle.parts.specs.Recovery.{skipTurn}
 
 -- is Eof one of these kinds?
 abbrev hasEof : List ℕ → Bool

@@ -7,14 +7,14 @@ use Rattle.kinds.specs.Number as kind
 use Rattle.cursor.specs.declared.State.{State}
 use Rattle.cursor.specs.declared.Kids.{Kids}
 use Rattle.cursor.specs.Sheet.{Sheet}
-use Rattle.cursor.specs.Rule.{World, Stop, Out, done, failed, Rule, _>>_, give, ifSo, Next, more, stop, iterate}
+use Rattle.cursor.specs.Rule.{World, Stop, done, failed, Rule, _>>_, give, ifSo, more, stop, iterate}
 use Rattle.cursor.specs.Tokens.{eatEol}
 use Rattle.cursor.specs.Checks.{eat, expect}
 use Rattle.types.specs.declared.items.Items.{Items}
 use Rattle.types.specs.Items.{so, afterItem, oneItem}
 use Rattle.cursor.proofs.Loops.{Takes}
 use Rattle.cursor.proofs.Keeps.{Mark, Keeps, Plain, Nexts, ground, gives, ifs, binds, thens, loops}
-use Rattle.cursor.proofs.Kept.{eat-keeps, expect-keeps, eat-eol-keeps, add-keeps, Fresh, RowFor, fresh-mine, ground-mine}
+use Rattle.cursor.proofs.Kept.{eat-keeps, eat-eol-keeps, add-keeps, Fresh, RowFor, fresh-mine, ground-mine}
 use Rattle.cursor.proofs.Spends.{Spends, Further, takes, spares, first-spends, then-spends}
 use Rattle.cursor.proofs.Spent.{expect-spends}
 use Rattle.types.proofs.ItemKeeps.{ItemsFor, after-item-keeps}

@@ -1,6 +1,5 @@
 -- What the answers of this crate are as ends of rules.
-use Prim.Native.Nat.{ℕ}
-use mathlib.Core.Bool.{true, false}
+use mathlib.Core.Bool.{false}
 use Rattle.cursor.specs.declared.Kids.{Kids}
 use Rattle.cursor.specs.declared.Ranged.{Ranged}
 use Rattle.cursor.specs.Rule.{World, Out, done, failed, Next, more, stop}

@@ -1,12 +1,12 @@
 -- Effects: parse_effect_stmt.
 use Prim.Native.Nat.{ℕ}
-use mathlib.Core.Bool.{Bool, true, false}
+use mathlib.Core.Bool.{false}
 use lib.Dec.{ltb}
 use Rattle.kinds.specs.Number as kind
 use Rattle.cursor.specs.declared.Ranged.{Ranged}
 use Rattle.cursor.specs.Node as node
 use Rattle.cursor.specs.Sheet.{Sheet}
-use Rattle.cursor.specs.Rule.{World, Out, Rule, _>>=_, _>>_, give}
+use Rattle.cursor.specs.Rule.{Rule, _>>=_, _>>_}
 use Rattle.cursor.specs.Checks.{expect}
 use Rattle.cursor.specs.Records.{add, noKids, flagged}
 use Rattle.types.specs.declared.items.Items.{Items}
@@ -14,8 +14,6 @@ use Rattle.types.specs.Lits.{ident}
 use Rattle.types.specs.Items.{start, close, addSome, isEnded}
 use Rattle.types.specs.Types.{params, returns}
 use Rattle.types.specs.Patterns.{spanOf}
-use Rattle.parts.specs.Records.{fnRecord, functionRecord}
-use Rattle.parts.specs.Steps.{anyParams}
 
 -- an effect over its parameters and the type that it returns, and the statement over its name and it
 unfoldable pub effectRecord : ℕ → ℕ → Ranged → ℕ → Items → ℕ → Rule ℕ

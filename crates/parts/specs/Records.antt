@@ -5,7 +5,7 @@ use lib.Dec.{ltb, eqb}
 use Rattle.cursor.specs.declared.Kids.{Kids}
 use Rattle.cursor.specs.declared.Ranged.{Ranged}
 use Rattle.cursor.specs.Node as node
-use Rattle.cursor.specs.Rule.{World, Out, done, Rule, _>>=_, _>>_, give, Next, more, stop}
+use Rattle.cursor.specs.Rule.{Rule, _>>=_, _>>_, give, Next, more}
 use Rattle.cursor.specs.Records.{add, reflag, noKids, flagged}
 use Rattle.types.specs.declared.items.Items.{Items}
 use Rattle.types.specs.Items.{close, addSome, isEnded}

@@ -1,16 +1,15 @@
 -- Undone attempts, recovery, and what follows a statement: the parts of parse_exprs.
 use Prim.Native.Nat.{ℕ}
-use mathlib.Core.List.{List, [], _∷_}
-use mathlib.Core.Bool.{Bool, true, false}
+use mathlib.Core.List.{[], _∷_}
 use lib.Dec.{ltb}
 use Rattle.kinds.specs.Number as kind
 use Rattle.cursor.specs.declared.State.{State}
 use Rattle.cursor.specs.declared.Kids.{Kids}
 use Rattle.cursor.specs.Sheet.{Sheet}
-use Rattle.cursor.specs.Rule.{World, Stop, fault, refused, Out, done, failed, Rule, _>>=_, _>>_, orElse, give, ifSo, Next, more, stop, Turn, iterate}
+use Rattle.cursor.specs.Rule.{Stop, fault, refused, Out, done, failed, Rule, _>>=_, _>>_, orElse, give, ifSo, Next, more, stop, Turn, iterate}
 use Rattle.cursor.specs.Tokens.{bump, eatEol, rewind}
 use Rattle.cursor.specs.Checks.{check, eat, expect, pick, unexpectedAt}
-use Rattle.cursor.specs.Records.{log, noKids}
+use Rattle.cursor.specs.Records.{log}
 use Rattle.cursor.specs.Attempts.{unbuilt, recover}
 use Rattle.types.specs.Items.{addSome}
 use Rattle.parts.specs.When.{when}

@@ -1,5 +1,5 @@
 -- Steps of the rules on expressions that lead back to no expression.
-use Prim.Native.Nat.{ℕ, zero, suc, _+_, _-_, _%_}
+use Prim.Native.Nat.{ℕ, _+_, _-_, _%_}
 use mathlib.Core.List.{List}
 use mathlib.Core.Bool.{Bool, true, false}
 use lib.Dec.{ltb, eqb}
@@ -15,7 +15,7 @@ use Rattle.cursor.specs.declared.Ranged.{Ranged}
 use Rattle.cursor.specs.declared.Ranged.the-variants as ranged
 use Rattle.cursor.specs.Node as node
 use Rattle.cursor.specs.Sheet.{Sheet, kindAt, rangeAt}
-use Rattle.cursor.specs.Rule.{World, Out, done, Rule, _>>=_, _>>_, give, ifSo, Next, more, stop, Turn, iterate}
+use Rattle.cursor.specs.Rule.{Rule, _>>=_, _>>_, give, ifSo, Next, more, stop, Turn, iterate}
 use Rattle.cursor.specs.Tokens.{bump}
 use Rattle.cursor.specs.Checks.{check, eat, expect, unexpected}
 use Rattle.cursor.specs.Records.{append, add, noKids}

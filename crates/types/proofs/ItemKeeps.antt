@@ -2,25 +2,22 @@
 use mathlib.Core.Path.{_≡_, refl}
 use mathlib.Core.Bool.{Bool, true, false}
 use Prim.Native.Nat.{ℕ, zero, suc}
-use lib.Dec.{eqb}
 use Rattle.kinds.specs.Number as kind
-use Rattle.cursor.specs.declared.State.{State}
 use Rattle.cursor.specs.declared.Kids.{Kids}
 use Rattle.cursor.specs.declared.Span.{Span}
 use Rattle.cursor.specs.declared.Ranged.{Ranged}
 use Rattle.cursor.specs.declared.Ranged.the-variants as ranged
-use Rattle.cursor.specs.Node as node
 use Rattle.cursor.specs.Sheet.{Sheet, kindAt, rangeAt}
-use Rattle.cursor.specs.Rule.{World, Out, Rule, _>>=_, _>>_, give, ifSo, Next, more, stop}
+use Rattle.cursor.specs.Rule.{Rule, _>>=_, _>>_, give, ifSo, more, stop}
 use Rattle.cursor.specs.Tokens.{eatEol}
-use Rattle.cursor.specs.Checks.{check, eat, expect}
+use Rattle.cursor.specs.Checks.{check, expect}
 use Rattle.cursor.specs.Records.{noKids}
 use Rattle.cursor.proofs.Ends.{ill, well}
 use Rattle.cursor.proofs.Loops.{Takes}
-use Rattle.cursor.proofs.Keeps.{Mark, Keeps, Plain, Nexts, ground, went-refl, gives, refuses, ifs, eases, binds, thens, loops}
-use Rattle.cursor.proofs.Kept.{bump-keeps, check-keeps, eat-keeps, expect-keeps, unexpected-keeps, pick-keeps, eat-eol-keeps, append-keeps, add-keeps, Mine, nothing, Fresh, RowFor, fresh-mine, ground-mine}
-use Rattle.cursor.proofs.Spends.{Spends, Further, takes, spares, always, first-spends, then-spends, if-spends}
-use Rattle.cursor.proofs.Spent.{eat-spends, expect-spends, check-spends}
+use Rattle.cursor.proofs.Keeps.{Mark, Keeps, Plain, Nexts, ground, went-refl, gives, ifs, binds, thens, loops}
+use Rattle.cursor.proofs.Kept.{bump-keeps, check-keeps, eat-keeps, expect-keeps, unexpected-keeps, eat-eol-keeps, append-keeps, add-keeps, Mine, nothing, Fresh, RowFor, fresh-mine, ground-mine}
+use Rattle.cursor.proofs.Spends.{Spends, Further, takes, spares, first-spends, then-spends}
+use Rattle.cursor.proofs.Spent.{expect-spends}
 use Rattle.types.specs.declared.items.Items.{Items}
 use Rattle.types.specs.declared.lits.Literal.{Literal}
 use Rattle.types.specs.declared.lits.Literal.the-variants as literals

@@ -1,12 +1,12 @@
 -- Each way through the steps that rules share, and through lists of items.
-use mathlib.Core.Path.{_≡_, refl, sym, ap, _∙_}
-use mathlib.Core.Bool.{Bool, true, false}
+use mathlib.Core.Path.{_≡_, refl, sym, _∙_}
+use mathlib.Core.Bool.{true, false}
 use Prim.Native.Nat.{ℕ, zero, suc}
 use Rattle.kinds.specs.Number as kind
 use Rattle.cursor.specs.declared.State.{State}
 use Rattle.cursor.specs.declared.Kids.{Kids}
 use Rattle.cursor.specs.Sheet.{Sheet}
-use Rattle.cursor.specs.Rule.{World, Stop, Out, done, failed, Rule, Next, more, stop, iterate}
+use Rattle.cursor.specs.Rule.{World, Stop, Out, done, failed, Rule, more, stop, iterate}
 use Rattle.cursor.specs.Tokens.{eatEol}
 use Rattle.cursor.specs.Checks.{check, eat, expect}
 use Rattle.cursor.specs.Records.{append, add, noKids}

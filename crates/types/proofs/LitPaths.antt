@@ -1,33 +1,30 @@
 -- Each way through the rules on literals and names.
-use mathlib.Core.Path.{_≡_, refl, sym, ap, _∙_}
+use mathlib.Core.Path.{_≡_, refl, _∙_}
 use mathlib.Core.List.{List}
-use mathlib.Core.Bool.{Bool, true, false}
+use mathlib.Core.Bool.{Bool, false}
 use Prim.Native.Nat.{ℕ, _+_, _-_, _/_, _%_, _^_, _<_}
-use native.Mathlib.Omega.{arith}
 use lib.Dec.{eqb}
 use borrow.Author.Tests.{eq-eqb, ne-eqb}
 use Rattle.kinds.specs.Number as kind
 use Rattle.kinds.specs.Text.{part}
 use Rattle.ints.specs.declared.Sign.{Sign}
 use Rattle.ints.specs.declared.IntFault.{IntFault}
-use Rattle.ints.specs.declared.IntAnswer.{IntAnswer}
 use Rattle.ints.specs.declared.IntAnswer.the-variants as ints
 use Rattle.ints.specs.Answer.{intOf, faultNumber}
 use Rattle.cursor.specs.declared.State.{State}
 use Rattle.cursor.specs.declared.Fault.{Fault}
 use Rattle.cursor.specs.declared.Label.{Label}
 use Rattle.cursor.specs.declared.Span.{Span}
-use Rattle.cursor.specs.declared.Ranged.{Ranged}
 use Rattle.cursor.specs.declared.Ranged.the-variants as ranged
 use Rattle.cursor.specs.Node as node
 use Rattle.cursor.specs.Sheet.{Sheet, kindAt, rangeAt}
-use Rattle.cursor.specs.Rule.{World, Stop, fault, Out, done, failed}
+use Rattle.cursor.specs.Rule.{World, Stop, fault, done, failed}
 use Rattle.cursor.specs.Tokens.{bump}
 use Rattle.cursor.specs.Checks.{unexpectedAt, unexpected, expect}
 use Rattle.cursor.specs.Records.{append}
 use Rattle.types.specs.declared.lits.Literal.{Literal}
 use Rattle.types.specs.declared.lits.Literal.the-variants as literals
-use Rattle.types.specs.Lits.{bitsOf, leafLabel, leaf, intBy, intLiteral, when, literal, litFrom, litAt, lit, identAt, ident}
+use Rattle.types.specs.Lits.{bitsOf, leafLabel, leaf, intLiteral, when, literal, litFrom, litAt, lit, identAt, ident}
 
 -- the one or the other, by a test of a kind
 module _ (k m : ℕ) (l n : Literal) where

@@ -1,5 +1,5 @@
 -- What the rules on patterns keep, and that the turns of their lists take tokens.
-use mathlib.Core.Path.{_≡_, refl}
+use mathlib.Core.Path.{_≡_}
 use Prim.Native.Nat.{ℕ, zero, suc}
 use Rattle.kinds.specs.Number as kind
 use Rattle.cursor.specs.declared.Kids.{Kids}
@@ -8,7 +8,7 @@ use Rattle.cursor.specs.Sheet.{Sheet}
 use Rattle.cursor.specs.Rule.{Rule}
 use Rattle.cursor.specs.Records.{noKids}
 use Rattle.cursor.proofs.Loops.{Takes}
-use Rattle.cursor.proofs.Keeps.{Mark, Keeps, Plain, EndsFrom, ground, gives, refuses, eases, binds, thens}
+use Rattle.cursor.proofs.Keeps.{Mark, Keeps, EndsFrom, gives, refuses, eases, binds, thens}
 use Rattle.cursor.proofs.Kept.{bump-keeps, expect-keeps, pick-keeps, nothing, Fresh, RowFor, ground-mine}
 use Rattle.types.specs.declared.items.Items.{Items}
 use Rattle.types.specs.Items.{itemTurn}

@@ -1,6 +1,6 @@
 -- Each way through the rules on patterns.
-use mathlib.Core.Path.{_≡_, refl, sym, ap, _∙_}
-use mathlib.Core.Bool.{Bool, true, false}
+use mathlib.Core.Path.{_≡_, refl, sym, _∙_}
+use mathlib.Core.Bool.{Bool, false}
 use Prim.Native.Nat.{ℕ, zero, suc, _-_}
 use native.Mathlib.Numerals.{sub-one}
 use Rattle.kinds.specs.Number as kind
@@ -11,7 +11,7 @@ use Rattle.cursor.specs.declared.Ranged.{Ranged}
 use Rattle.cursor.specs.declared.Ranged.the-variants as ranged
 use Rattle.cursor.specs.Node as node
 use Rattle.cursor.specs.Sheet.{Sheet, rangeAt}
-use Rattle.cursor.specs.Rule.{World, Stop, Out, done, failed, refused, Rule, iterate}
+use Rattle.cursor.specs.Rule.{World, Stop, done, failed, refused, Rule, iterate}
 use Rattle.cursor.specs.Tokens.{startOf, bump, eatEol}
 use Rattle.cursor.specs.Checks.{expect, pick}
 use Rattle.cursor.specs.Records.{noKids, flagged}

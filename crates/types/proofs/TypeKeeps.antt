@@ -4,21 +4,19 @@ use mathlib.Core.Bool.{Bool, true, false}
 use Prim.Native.Nat.{ℕ, zero, suc}
 use lib.Dec.{eqb}
 use Rattle.kinds.specs.Number as kind
-use Rattle.cursor.specs.declared.State.{State}
 use Rattle.cursor.specs.declared.Kids.{Kids}
 use Rattle.cursor.specs.Node as node
 use Rattle.cursor.specs.Sheet.{Sheet}
-use Rattle.cursor.specs.Rule.{World, Out, Rule, _>>=_, _>>_, give, ifSo, Next, more, stop}
-use Rattle.cursor.specs.Checks.{eat}
-use Rattle.cursor.specs.Records.{add, noKids}
+use Rattle.cursor.specs.Rule.{Rule, _>>=_, _>>_}
+use Rattle.cursor.specs.Records.{noKids}
 use Rattle.cursor.proofs.Loops.{Takes}
-use Rattle.cursor.proofs.Keeps.{Mark, Keeps, Plain, Nexts, ground, EndsFrom, gives, refuses, ifs, eases, binds, thens, loops}
+use Rattle.cursor.proofs.Keeps.{Mark, Keeps, Nexts, EndsFrom, gives, refuses, ifs, eases, binds, thens, loops}
 use Rattle.cursor.proofs.Kept.{bump-keeps, check-keeps, eat-keeps, expect-keeps, pick-keeps, add-keeps, Mine, nothing, Fresh, RowFor, fresh-mine, ground-mine}
-use Rattle.cursor.proofs.Spends.{Spends, Further, Holds, takes, spares, if-spends}
+use Rattle.cursor.proofs.Spends.{takes, spares, if-spends}
 use Rattle.cursor.proofs.Spent.{eat-spends}
 use Rattle.types.specs.declared.items.Items.{Items}
-use Rattle.types.specs.Items.{so, lastItem, itemTurn}
-use Rattle.types.specs.Types.{pickOne, unionTurn, union, type, returns, named, typedIdent, tableTyPair, tableTyOther, typeItem, typeLastKind, typeEnd, typeLastItem, typeLast, lastOf, typeItems, typeParen, typeTable, typeFunction, typeChain, typeBy, typeAtom, atoms, params, closureParams}
+use Rattle.types.specs.Items.{itemTurn}
+use Rattle.types.specs.Types.{pickOne, unionTurn, union, type, returns, named, typedIdent, tableTyPair, tableTyOther, typeItem, typeLastKind, typeEnd, typeLastItem, typeLast, typeItems, typeParen, typeTable, typeFunction, typeChain, typeBy, typeAtom, atoms, params, closureParams}
 use Rattle.types.proofs.ItemKeeps.{ItemsFor, start-keeps, close-keeps, pair-keeps, add-some-keeps, lit-keeps, ident-keeps, items-keep, items-take}
 
 -- one of four

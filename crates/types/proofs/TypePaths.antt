@@ -1,24 +1,23 @@
 -- Each way through the rules on types.
-use mathlib.Core.Path.{_≡_, refl, sym, ap, _∙_}
+use mathlib.Core.Path.{_≡_, refl, _∙_}
 use mathlib.Core.Bool.{Bool, true, false}
 use Prim.Native.Nat.{ℕ, zero, suc, _-_}
 use native.Mathlib.Numerals.{sub-one}
-use lib.Dec.{ltb, eqb}
+use lib.Dec.{ltb}
 use borrow.Author.Tests.{eq-eqb, ne-eqb}
 use Rattle.kinds.specs.Number as kind
 use Rattle.cursor.specs.declared.State.{State}
 use Rattle.cursor.specs.declared.Kids.{Kids}
 use Rattle.cursor.specs.Node as node
 use Rattle.cursor.specs.Sheet.{Sheet, rangeAt}
-use Rattle.cursor.specs.Rule.{World, Stop, Out, done, failed, refused, Rule, Next, more, stop, iterate}
+use Rattle.cursor.specs.Rule.{World, Stop, Out, done, failed, refused, Rule, more, stop, iterate}
 use Rattle.cursor.specs.Tokens.{startOf, bump, eatEol}
 use Rattle.cursor.specs.Checks.{check, eat, expect, pick}
 use Rattle.cursor.specs.Records.{add, noKids, flagged}
 use Rattle.types.specs.declared.items.Items.{Items}
 use Rattle.types.specs.Lits.{lit, ident}
 use Rattle.types.specs.Items.{start, close, pair, addSome, isEnded, so, afterLast, lastItem, itemTurn, itemsUntilWithLast}
-use Rattle.types.specs.Types as types
-use Rattle.types.specs.Types.{pickOne, ended, typeLastKind, typeEnd, unionTurn, union, type, returns, named, typedIdent, tableTyPair, tableTyOther, typeItem, typeLastItem, typeLast, lastOf, typeItems, typeParen, typeTable, typeFunction, typeChain, typeBy, typeAtom, atoms, params, closureParams}
+use Rattle.types.specs.Types.{ended, typeLastKind, typeEnd, unionTurn, union, type, returns, named, typedIdent, tableTyPair, tableTyOther, typeItem, typeLastItem, typeLast, lastOf, typeItems, typeParen, typeTable, typeFunction, typeChain, typeBy, typeAtom, atoms, params, closureParams}
 
 -- how lists of each item rule end, and how their last item starts
 pub last-kind-pairs : {k : ℕ} → k ≡ 2 → typeLastKind k ≡ kind.OpenBracket

@@ -16,7 +16,7 @@ use Rattle.cursor.specs.declared.Ranged.{Ranged}
 use Rattle.cursor.specs.declared.Ranged.the-variants as ranged
 use Rattle.cursor.specs.Node as node
 use Rattle.cursor.specs.Sheet.{Sheet, kindAt, rangeAt}
-use Rattle.cursor.specs.Rule.{World, fault, Out, failed, Rule, _>>=_, _>>_}
+use Rattle.cursor.specs.Rule.{fault, failed, Rule, _>>=_, _>>_}
 use Rattle.cursor.specs.Tokens.{bump}
 use Rattle.cursor.specs.Checks.{unexpected, expect}
 use Rattle.cursor.specs.Records.{append}

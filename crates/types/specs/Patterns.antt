@@ -1,8 +1,7 @@
 -- Patterns: parse_pattern.
 use Prim.Native.Nat.{ℕ, zero, suc}
 use mathlib.Core.List.{List, [], _∷_}
-use mathlib.Core.Bool.{true, false}
-use lib.Dec.{eqb}
+use mathlib.Core.Bool.{false}
 use Rattle.kinds.specs.Number as kind
 use Rattle.cursor.specs.declared.Kids.{Kids}
 use Rattle.cursor.specs.declared.Span.{Span}
@@ -10,7 +9,7 @@ use Rattle.cursor.specs.declared.Ranged.{Ranged}
 use Rattle.cursor.specs.declared.Ranged.the-variants as ranged
 use Rattle.cursor.specs.Node as node
 use Rattle.cursor.specs.Sheet.{Sheet, rangeAt}
-use Rattle.cursor.specs.Rule.{World, Out, done, Rule, _>>=_, _>>_, give, refuse}
+use Rattle.cursor.specs.Rule.{Rule, _>>=_, _>>_, give, refuse}
 use Rattle.cursor.specs.Tokens.{bump}
 use Rattle.cursor.specs.Checks.{expect, pick}
 use Rattle.cursor.specs.Records.{noKids, flagged}

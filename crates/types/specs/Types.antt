@@ -4,14 +4,11 @@ use mathlib.Core.List.{List, [], _∷_}
 use mathlib.Core.Bool.{Bool, true, false}
 use lib.Dec.{ltb, eqb}
 use Rattle.kinds.specs.Number as kind
-use Rattle.cursor.specs.declared.State.{State}
 use Rattle.cursor.specs.declared.Kids.{Kids}
-use Rattle.cursor.specs.declared.Span.{Span}
-use Rattle.cursor.specs.declared.Ranged.{Ranged}
 use Rattle.cursor.specs.declared.Ranged.the-variants as ranged
 use Rattle.cursor.specs.Node as node
 use Rattle.cursor.specs.Sheet.{Sheet}
-use Rattle.cursor.specs.Rule.{World, Out, done, Rule, _>>=_, _>>_, give, refuse, ifSo, Next, more, stop, Turn, iterate}
+use Rattle.cursor.specs.Rule.{Out, Rule, _>>=_, _>>_, give, refuse, ifSo, more, stop, Turn, iterate}
 use Rattle.cursor.specs.Checks.{check, eat, expect, pick}
 use Rattle.cursor.specs.Tokens.{bump}
 use Rattle.cursor.specs.Records.{add, noKids, flagged}

@@ -1,0 +1,34 @@
+#!/bin/sh
+# stream.sh [COUNT [SEED]]: compares the program `replay` with the original over streams of COUNT random sheets, 100,000 where none is said, in
+# parts of 10,000. It needs no linking, so it works on Arm too, where the program runs under the kit's emulator.
+# REPLAY names the program, otherwise it is the one that `rt check replay` makes. Needs LUCIA_SRC for the first build of the oracle.
+set -eu
+cd "$(dirname "$0")"
+count=${1:-100000}
+seed=${2:-1}
+replay=${REPLAY:-../target/bin/replay}
+[ -x "$replay" ] || { echo "no $replay: rt check replay makes it" >&2; exit 1; }
+[ -x target/bin/compare ] || ./build.sh
+bin=target/bin
+part=target/stream
+mkdir -p "$part"
+start=$(date +%s)
+done=0
+while [ "$done" -lt "$count" ]; do
+    {
+        $bin/sheets grammatical "$seed" 3000 40
+        $bin/sheets damaged "$seed" 3500 40
+        $bin/sheets wild "$seed" 1000 30
+        $bin/sheets short "$seed" 1000 8
+        $bin/sheets entry "$seed" 1000 16
+        $bin/sheets deep "$seed" 300
+        $bin/sheets damaged "$seed" 200 400
+    } > "$part/bundles"
+    $bin/answers --rule < "$part/bundles" > "$part/theirs"
+    linked/x86 "$replay" < "$part/bundles" > "$part/ours"
+    equal=$($bin/compare "$part/bundles" "$part/theirs" "$part/ours")
+    echo "seed $seed: $equal"
+    done=$((done + 10000))
+    seed=$((seed + 1))
+done
+echo "$done sheets compared over streams, all listings equal, $(($(date +%s) - start)) s on $(uname -m)"
