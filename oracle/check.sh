@@ -1,6 +1,6 @@
 #!/bin/sh
 # check.sh: builds the oracle, compares the known sheets, checks demand 3's sum on fresh sheets, and makes the stored answers again,
-# twice, which must come out byte for byte as they are stored. Needs LUCIA_SRC.
+# twice, and the whole answers of some of them, which must come out byte for byte as they are stored. Needs LUCIA_SRC.
 set -eu
 cd "$(dirname "$0")"
 ./build.sh
@@ -18,6 +18,10 @@ for run in 1 2; do
     done
     echo "run $run: the stored answers came out byte for byte"
 done
+./words.sh target/again-words
+cmp ../crates/words/stdin target/again-words/stdin
+cmp ../crates/words/stdout target/again-words/stdout
+echo "the whole answers in crates/words came out byte for byte"
 ./sets.py cut target/sets
 target/bin/reached target/sets/domain.bundles target/sets/marked.bundles > target/reached.md
 sed '1,/^<!-- reached -->$/d; /^<!-- end -->$/,$d' ../docs/ORACLE.md | diff - target/reached.md

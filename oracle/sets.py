@@ -4,6 +4,8 @@ needs it alone.
 
     sets.py join FOLDER OUT    the sets in FOLDER, NAME.bundles and NAME.listings, to OUT/all.bundles, OUT/all.listings and OUT/sets.txt
     sets.py cut FOLDER         the stored stream back to those files
+    sets.py some FILE          some bundles of the stored stream: every 18th, and at each limit the one that is refused and the one before it, which
+                               just passes
 
 sets.txt has a line for each set, its name and its number of sheets, in the order of the stream. The stream of listings ends in one more
 piece, which says how many sheets there were: a reader that stops early can't print it.
@@ -62,10 +64,20 @@ def cut(folder):
         at += count
 
 
+def some(path):
+    bundles, listings = pieces(os.path.join(STORED, 'all.bundles')), pieces(os.path.join(STORED, 'all.listings'))
+    limits = [b'refused %d\n' % number for number in range(7, 12)]
+    refused = [i for i in range(len(bundles)) if listings[i][4:] in limits]
+    kept = {*range(17, len(bundles), 18), *refused, *(i - 1 for i in refused)}
+    write(path, [bundles[i] for i in sorted(kept)])
+
+
 if __name__ == '__main__':
     if sys.argv[1:2] == ['join'] and len(sys.argv) == 4:
         join(*sys.argv[2:])
     elif sys.argv[1:2] == ['cut'] and len(sys.argv) == 3:
         cut(sys.argv[2])
+    elif sys.argv[1:2] == ['some'] and len(sys.argv) == 3:
+        some(sys.argv[2])
     else:
         sys.exit(__doc__)

@@ -1,13 +1,16 @@
 #!/bin/sh
-# stream.sh [COUNT [SEED]]: compares the program `replay` with the original over streams of COUNT random sheets, 100,000 where none is said, in
-# parts of 10,000. It needs no linking, so it works on Arm too, where the program runs under the kit's emulator.
-# REPLAY names the program, otherwise it is the one that `rt check replay` makes. Needs LUCIA_SRC for the first build of the oracle.
+# stream.sh [COUNT [SEED]]: compares the programs `replay` (listings) and `words` (whole answers) with the original over streams of COUNT random
+# sheets, 100,000 where none is said, in parts of 10,000. It needs no linking, so it works on Arm too, where they run under the kit's emulator.
+# REPLAY and WORDS name the programs, otherwise they are those that `rt check replay words` makes. Needs LUCIA_SRC for the first build of the oracle.
 set -eu
 cd "$(dirname "$0")"
 count=${1:-100000}
 seed=${2:-1}
 replay=${REPLAY:-../target/bin/replay}
-[ -x "$replay" ] || { echo "no $replay: rt check replay makes it" >&2; exit 1; }
+words=${WORDS:-../target/bin/words}
+for program in "$replay" "$words"; do
+    [ -x "$program" ] || { echo "no $program: rt check replay words makes it" >&2; exit 1; }
+done
 [ -x target/bin/compare ] || ./build.sh
 bin=target/bin
 part=target/stream
@@ -28,7 +31,11 @@ while [ "$done" -lt "$count" ]; do
     linked/x86 "$replay" < "$part/bundles" > "$part/ours"
     equal=$($bin/compare "$part/bundles" "$part/theirs" "$part/ours")
     echo "seed $seed: $equal"
+    $bin/answers --rule --raw < "$part/bundles" > "$part/theirs"
+    linked/x86 "$words" < "$part/bundles" > "$part/ours"
+    equal=$($bin/compare --raw "$part/bundles" "$part/theirs" "$part/ours")
+    echo "seed $seed: $equal"
     done=$((done + 10000))
     seed=$((seed + 1))
 done
-echo "$done sheets compared over streams, all listings equal, $(($(date +%s) - start)) s on $(uname -m)"
+echo "$done sheets compared over streams, all listings and whole answers equal, $(($(date +%s) - start)) s on $(uname -m)"

@@ -1,6 +1,6 @@
-//! compare BUNDLES THEIRS OURS: three streams, bundles and two streams of their listings, of which the second ends in the number of sheets.
-//! Says how many listings are equal, of each sort. At the first difference it writes the bundle to difference.bundle beside OURS,
-//! shows the first line that differs, and fails.
+//! compare BUNDLES THEIRS OURS [--raw]: three streams, bundles and two streams of their listings, or with --raw of their whole answers, of which the
+//! second ends in the number of sheets. Says how many are equal, of each sort. At the first difference it writes the bundle to
+//! difference.bundle beside OURS, shows the first line or byte that differs, and fails.
 
 use std::{collections::BTreeMap, env, error::Error, fs, fs::File, path::Path};
 
@@ -17,10 +17,27 @@ fn first_line(theirs: &[u8], ours: &[u8]) -> String {
     }
 }
 
+fn first_byte(theirs: &[u8], ours: &[u8]) -> String {
+    let shorter = theirs.len().min(ours.len());
+    let at = (0..shorter).find(|at| theirs[*at] != ours[*at]).unwrap_or(shorter);
+    format!("byte {at} is {:?} in theirs, {:?} in ours", theirs.get(at), ours.get(at))
+}
+
+/// The sort of a whole answer: number first, the count of errors from the tenth byte on.
+fn raw_sort(piece: &[u8]) -> String {
+    match piece {
+        [0, rest @ ..] if rest.get(8..12) == Some(&[0; 4]) => "read without errors".to_owned(),
+        [0, ..] => "read with errors".to_owned(),
+        [number, ..] => format!("refused {number}"),
+        [] => "empty".to_owned(),
+    }
+}
+
 fn main() -> Result<(), Box<dyn Error>> {
-    let words: Vec<String> = env::args().skip(1).collect();
+    let (options, words): (Vec<String>, Vec<String>) = env::args().skip(1).partition(|word| word == "--raw");
+    let raw = !options.is_empty();
     let [bundles, theirs, ours] = words.as_slice() else {
-        return Err("compare BUNDLES THEIRS OURS".into());
+        return Err("compare BUNDLES THEIRS OURS [--raw]".into());
     };
     let place = Path::new(ours).with_file_name("difference.bundle");
     let (bundles, theirs) = (read_stream(File::open(bundles)?)?, read_stream(File::open(theirs)?)?);
@@ -32,15 +49,18 @@ fn main() -> Result<(), Box<dyn Error>> {
         let (right, left) = (theirs.get(number).ok_or("a listing of theirs is missing")?, ours.get(number).unwrap_or(&nothing));
         if right != left {
             fs::write(&place, bundle)?;
-            return Err(format!("sheet {number} differs, written to {}: {}", place.display(), first_line(right, left)).into());
+            let what = if raw { first_byte(right, left) } else { first_line(right, left) };
+            return Err(format!("sheet {number} differs, written to {}: {what}", place.display()).into());
         }
-        *sorts.entry(sort(&String::from_utf8_lossy(right)).to_owned()).or_default() += 1;
+        let found = if raw { raw_sort(right) } else { sort(&String::from_utf8_lossy(right)).to_owned() };
+        *sorts.entry(found).or_default() += 1;
     }
     let end = format!("{} sheets\n", bundles.len());
     if ours.len() != bundles.len() || closing != end.as_bytes() {
-        return Err(format!("{} listings, and at the end {:?}", ours.len(), String::from_utf8_lossy(&closing)).into());
+        return Err(format!("{} pieces, and at the end {:?}", ours.len(), String::from_utf8_lossy(&closing)).into());
     }
     let sorts: Vec<String> = sorts.iter().map(|(sort, count)| format!("{count} {sort}")).collect();
-    println!("{} listings equal: {}", bundles.len(), sorts.join(", "));
+    let what = if raw { "whole answers" } else { "listings" };
+    println!("{} {what} equal: {}", bundles.len(), sorts.join(", "));
     Ok(())
 }
