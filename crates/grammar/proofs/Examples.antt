@@ -1,0 +1,274 @@
+-- Sheets that follow the grammar: their derivations, and that the tree read off each is the one which the table of known outcomes has for it
+-- (crates/known/specs/Known.antt; that crate is over the parser, so its trees are written out again here). At the end one that does not.
+use Prim.Native.Nat.{ℕ, _*_, _≤_}
+use mathlib.Core.Path.{_≡_, refl, sym, _∙_}
+use mathlib.Core.List.{List, [], _∷_}
+use mathlib.Core.Bool.{true, false}
+use borrow.Author.Tests.{eqb-false, leb-true, ltb-true}
+use Rattle.kinds.specs.Number as kind
+use Rattle.kinds.specs.Spelling.{bytes, equal}
+use Rattle.kinds.specs.Kinds.{isTrivia}
+use Rattle.kinds.specs.Operators.{binaryOf, levelOf}
+use Rattle.kinds.specs.TypeWords.{typeWord}
+use Rattle.ints.specs.Spelling.{kept, radixBy, radixOf, afterPrefix, signBy, digitOf, valueOf}
+use Rattle.ints.specs.Answer.{judged, firstOf, numberOf, afterwards, fromStrRadix, intOf}
+use Rattle.cursor.specs.declared.Label.{Label}
+use Rattle.cursor.specs.Node as record-of
+use Rattle.cursor.specs.Tree.{Trees, none, node, tree, join}
+use Rattle.types.specs.Lits.{literal, intLiteral}
+use Rattle.parts.specs.Steps.{checkedType}
+use Rattle.grammar.specs.Places.{Place, kindOf, spanOf, after, Tok, Not, Free, tokensOf, significant, before, opening}
+use Rattle.grammar.specs.Symbols.{Form, Other, Body, Stmts, Atom, Prec}
+use Rattle.grammar.specs.Derives.{
+  signs,
+  openers,
+  no-brace,
+  Derives,
+  no-eol,
+  an-eol,
+  until-of,
+  items-end,
+  items-final,
+  a-literal,
+  an-ident,
+  no-type,
+  params-of,
+  body-of,
+  no-stmt,
+  last-stmt,
+  a-line,
+  block-of,
+  function-of,
+  plain,
+  expr-of,
+  prec-of,
+  no-op,
+  binary,
+  type-check,
+  no-unary,
+  primary-of,
+  no-post,
+  group,
+  name,
+  table,
+  block-expr,
+  atom-literal,
+  fn-expr,
+  property,
+  group-key,
+}
+use Rattle.grammar.specs.Shape.{shape}
+use Rattle.grammar.specs.Follows.{Follows, treeOf}
+use Rattle.grammar.specs.Words.{among, range, tokenWords, ownWord, words}
+use Rattle.grammar.specs.Words as word
+use Rattle.grammar.proofs.Tests.{takes, other, free}
+use Rattle.grammar.proofs.Starts.{stmts, apart, starts}
+
+-- a record: its kind, start and end, two words and flags
+abbrev says : ℕ → ℕ → ℕ → ℕ → ℕ → ℕ → Label
+says k start end one two flags = record { kind = k; start = start; end = end; one = one; two = two; flags = flags }
+
+abbrev leaf : Label → Trees
+leaf l = tree l none
+
+-- an atom with nothing behind it that could join it
+alone : {text : List ℕ} {n : ℕ} {f : Form} {p q : Place} → Derives text (Atom f) p q → Free openers q → Not kind.OpenBrace q → levelOf (kindOf q) ≤ n → Derives text (Prec n true f) p q
+alone d a b c = prec-of (no-unary (primary-of d (no-post a (no-brace b)))) (no-op c)
+
+-- a is int * b
+abbrev product-text : List ℕ
+product-text = bytes "a is int * b"
+
+abbrev product-tokens : List ℕ
+product-tokens =
+    kind.Ident ∷ 0 ∷ 1
+    ∷ kind.Whitespace ∷ 1 ∷ 2
+    ∷ kind.Is ∷ 2 ∷ 4
+    ∷ kind.Whitespace ∷ 4 ∷ 5
+    ∷ kind.Ident ∷ 5 ∷ 8
+    ∷ kind.Whitespace ∷ 8 ∷ 9
+    ∷ kind.Mul ∷ 9 ∷ 10
+    ∷ kind.Whitespace ∷ 10 ∷ 11
+    ∷ kind.Ident ∷ 11 ∷ 12
+    ∷ []
+
+-- `is` stands above level 0 and its type word is no operand, so that the product's left side is the whole check
+product : Follows product-text product-tokens
+unfolding before tokensOf significant isTrivia kindOf spanOf after among levelOf binaryOf checkedType typeWord equal
+product = record {
+  end = _;
+  body =
+      body-of (no-eol (other refl)) (last-stmt (plain (prec-of (no-unary (primary-of (name (an-ident (takes refl refl))) (no-post (free refl) (no-brace (other refl)))))
+      (type-check (ltb-true _ _ refl) (takes refl refl) refl refl
+      (binary {k = kind.Mul} (ltb-true _ _ refl) (eqb-false _ _ refl) (takes refl refl) (alone (name (an-ident (takes refl refl))) (free refl) (other refl) (leb-true _ _ refl)) (no-op (leb-true _ _ refl)))))
+      (free refl)) (takes refl refl));
+  whole = refl;
+}
+
+product-tree : treeOf product ≡ tree (says record-of.Program 0 12 0 0 1) (tree (says record-of.Binary 0 12 kind.Mul 0 0) (node (says record-of.TypeCheck 0 8 2 5 0) (leaf (says record-of.Ident 0 1 0 0 0)) (leaf (says record-of.Ident 11 12 0 0 0))))
+unfolding product alone shape treeOf before opening tokensOf significant isTrivia kindOf spanOf after join
+product-tree = refl
+
+-- {
+-- }
+abbrev braces : List ℕ
+braces = kind.OpenBrace ∷ 0 ∷ 1 ∷ kind.Eol ∷ 1 ∷ 2 ∷ kind.CloseBrace ∷ 2 ∷ 3 ∷ []
+
+empty-table : (text : List ℕ) → Follows text braces
+unfolding before tokensOf significant isTrivia kindOf after among levelOf binaryOf
+empty-table text = record {
+  end = _;
+  body =
+      body-of (no-eol (other refl)) (last-stmt (plain (alone (table (takes refl refl) (until-of (an-eol (takes refl refl) (no-eol (other refl))) (items-end (takes refl refl)))) (free refl) (other refl) (leb-true _ _ refl))
+      (free refl)) (takes refl refl));
+  whole = refl;
+}
+
+empty-table-tree : (text : List ℕ) → treeOf (empty-table text) ≡ tree (says record-of.Program 0 3 0 0 1) (leaf (says record-of.Table 0 3 0 0 0))
+unfolding empty-table alone shape treeOf before opening tokensOf significant isTrivia kindOf spanOf after join
+empty-table-tree text = refl
+
+-- {1}
+abbrev number-tokens : List ℕ
+number-tokens = kind.OpenBrace ∷ 0 ∷ 1 ∷ kind.Int ∷ 1 ∷ 2 ∷ kind.CloseBrace ∷ 2 ∷ 3 ∷ []
+
+-- the 1 is no key, since no Colon follows it
+number-block : Follows (bytes "{1}") number-tokens
+unfolding before tokensOf significant isTrivia kindOf spanOf after among levelOf binaryOf literal intLiteral kept radixBy radixOf afterPrefix signBy digitOf valueOf judged firstOf numberOf afterwards fromStrRadix intOf
+number-block = record {
+  end = _;
+  body =
+      body-of (no-eol (other refl)) (last-stmt (plain (alone (block-expr (takes refl refl) (no-eol (other refl)) (other refl)
+      (body-of (no-eol (other refl)) (last-stmt (plain (alone (atom-literal (a-literal refl refl)) (free refl) (other refl) (leb-true _ _ refl)) (free refl)) (takes refl refl)))) (free refl) (other refl) (leb-true _ _ refl))
+      (free refl)) (takes refl refl));
+  whole = refl;
+}
+
+number-block-tree : treeOf number-block ≡ tree (says record-of.Program 0 3 0 0 1) (tree (says record-of.ExprBlock 0 3 0 0 0) (tree (says record-of.Block 1 3 0 0 1) (leaf (says record-of.Int 1 2 1 0 0))))
+unfolding number-block alone shape treeOf before opening tokensOf significant isTrivia kindOf spanOf after join literal intLiteral kept radixBy radixOf afterPrefix signBy digitOf valueOf judged firstOf numberOf afterwards fromStrRadix intOf
+number-block-tree = refl
+
+-- the empty sheet
+nothing : (text : List ℕ) → Follows text []
+unfolding before tokensOf significant kindOf after
+nothing text = record { end = _; body = body-of (no-eol (other refl)) (no-stmt (takes refl refl)); whole = refl }
+
+nothing-tree : (text : List ℕ) → treeOf (nothing text) ≡ leaf (says record-of.Program 0 0 0 0 0)
+unfolding nothing shape treeOf before opening tokensOf significant after
+nothing-tree text = refl
+
+-- {({(x)})}
+abbrev nested-tokens : List ℕ
+nested-tokens =
+    kind.OpenBrace ∷ 0 ∷ 1
+    ∷ kind.OpenParen ∷ 1 ∷ 2
+    ∷ kind.OpenBrace ∷ 2 ∷ 3
+    ∷ kind.OpenParen ∷ 3 ∷ 4
+    ∷ kind.Ident ∷ 4 ∷ 5
+    ∷ kind.CloseParen ∷ 5 ∷ 6
+    ∷ kind.CloseBrace ∷ 6 ∷ 7
+    ∷ kind.CloseParen ∷ 7 ∷ 8
+    ∷ kind.CloseBrace ∷ 8 ∷ 9
+    ∷ []
+
+-- a block of one expression
+braced : {text : List ℕ} {f : Form} {p q r s : Place} → Tok kind.OpenBrace p q → Not kind.Eol q → Not kind.CloseBrace q → Derives text (Prec 0 true f) q r → Free signs r → Tok kind.CloseBrace r s → Derives text (Atom Other) p s
+braced a b c d e g = block-expr a (no-eol b) c (body-of (no-eol b) (last-stmt (plain d e) g))
+
+nested : (text : List ℕ) → Follows text nested-tokens
+unfolding before tokensOf significant isTrivia kindOf after among levelOf binaryOf
+nested text = record {
+  end = _;
+  body =
+      body-of (no-eol (other refl)) (last-stmt (plain (alone (braced (takes refl refl) (other refl) (other refl)
+      (alone (group (takes refl refl) (expr-of (alone (braced (takes refl refl) (other refl) (other refl)
+      (alone (group (takes refl refl) (expr-of (alone (name (an-ident (takes refl refl))) (free refl) (other refl) (leb-true _ _ refl))) (takes refl refl)) (free refl) (other refl) (leb-true _ _ refl)) (free refl) (takes refl refl)) (free refl) (other refl) (leb-true _ _ refl))) (takes refl refl)) (free refl) (other refl) (leb-true _ _ refl)) (free refl) (takes refl refl)) (free refl) (other refl) (leb-true _ _ refl))
+      (free refl)) (takes refl refl));
+  whole = refl;
+}
+
+nested-tree : (text : List ℕ) → treeOf (nested text) ≡ tree (says record-of.Program 0 9 0 0 1) (tree (says record-of.ExprBlock 0 9 0 0 0) (tree (says record-of.Block 1 9 0 0 1) (tree (says record-of.Paren 1 8 0 0 0) (tree (says record-of.ExprBlock 2 7 0 0 0) (tree (says record-of.Block 3 7 0 0 1) (tree (says record-of.Paren 3 6 0 0 0) (leaf (says record-of.Ident 4 5 0 0 0))))))))
+unfolding nested braced alone shape treeOf before opening tokensOf significant isTrivia kindOf spanOf after join
+nested-tree text = refl
+
+-- {(x): 1}
+abbrev key-tokens : List ℕ
+key-tokens =
+    kind.OpenBrace ∷ 0 ∷ 1
+    ∷ kind.OpenParen ∷ 1 ∷ 2
+    ∷ kind.Ident ∷ 2 ∷ 3
+    ∷ kind.CloseParen ∷ 3 ∷ 4
+    ∷ kind.Colon ∷ 4 ∷ 5
+    ∷ kind.Whitespace ∷ 5 ∷ 6
+    ∷ kind.Int ∷ 6 ∷ 7
+    ∷ kind.CloseBrace ∷ 7 ∷ 8
+    ∷ []
+
+-- the key's record ends before the colon
+group-table : Follows (bytes "{(x): 1}") key-tokens
+unfolding before tokensOf significant isTrivia kindOf spanOf after among levelOf binaryOf literal intLiteral kept radixBy radixOf afterPrefix signBy digitOf valueOf judged firstOf numberOf afterwards fromStrRadix intOf
+group-table = record {
+  end = _;
+  body =
+      body-of (no-eol (other refl)) (last-stmt (plain (alone (table (takes refl refl) (until-of (no-eol (other refl)) (items-final
+      (property (group-key (takes refl refl) (expr-of (alone (name (an-ident (takes refl refl))) (free refl) (other refl) (leb-true _ _ refl))) (takes refl refl) (takes refl refl))
+      (expr-of (alone (atom-literal (a-literal refl refl)) (free refl) (other refl) (leb-true _ _ refl)))) (no-eol (other refl)) (takes refl refl)))) (free refl) (other refl) (leb-true _ _ refl))
+      (free refl)) (takes refl refl));
+  whole = refl;
+}
+
+group-table-tree : treeOf group-table ≡ tree (says record-of.Program 0 8 0 0 1) (tree (says record-of.Table 0 8 0 0 1) (tree (says record-of.TableProperty 1 7 0 0 0) (node (says record-of.Paren 1 4 0 0 0) (leaf (says record-of.Ident 2 3 0 0 0)) (leaf (says record-of.Int 6 7 1 0 0)))))
+unfolding group-table alone shape treeOf before opening tokensOf significant isTrivia kindOf spanOf after join literal intLiteral kept radixBy radixOf afterPrefix signBy digitOf valueOf judged firstOf numberOf afterwards fromStrRadix intOf
+group-table-tree = refl
+
+-- fn () {}
+abbrev function-tokens : List ℕ
+function-tokens =
+    kind.Fn ∷ 0 ∷ 2
+    ∷ kind.Whitespace ∷ 2 ∷ 3
+    ∷ kind.OpenParen ∷ 3 ∷ 4
+    ∷ kind.CloseParen ∷ 4 ∷ 5
+    ∷ kind.Whitespace ∷ 5 ∷ 6
+    ∷ kind.OpenBrace ∷ 6 ∷ 7
+    ∷ kind.CloseBrace ∷ 7 ∷ 8
+    ∷ []
+
+-- a function's block is a block, though nothing stands in it
+nameless : (text : List ℕ) → Follows text function-tokens
+unfolding before tokensOf significant isTrivia kindOf after among levelOf binaryOf
+nameless text = record {
+  end = _;
+  body =
+      body-of (no-eol (other refl)) (last-stmt (plain (alone (fn-expr (takes refl refl) (function-of (params-of (takes refl refl) (until-of (no-eol (other refl)) (items-end (takes refl refl))))
+      (no-type (other refl)) (block-of (takes refl refl) (body-of (no-eol (other refl)) (no-stmt (takes refl refl)))))) (free refl) (other refl) (leb-true _ _ refl))
+      (free refl)) (takes refl refl));
+  whole = refl;
+}
+
+nameless-tree : (text : List ℕ) → treeOf (nameless text) ≡ tree (says record-of.Program 0 8 0 0 1) (tree (says record-of.Fn 0 8 0 0 0) (tree (says record-of.Function 0 8 0 0 0) (leaf (says record-of.Block 7 8 0 0 0))))
+unfolding nameless alone shape treeOf before opening tokensOf significant isTrivia kindOf spanOf after join
+nameless-tree text = refl
+
+-- the words of a tree and of its tokens: the type word stands between the names
+product-words : words (treeOf product) ≡ range 0 1 ∷ range 5 8 ∷ range 11 12 ∷ []
+unfolding product alone shape treeOf before opening tokensOf significant isTrivia kindOf spanOf after join words ownWord word.typeWord among
+product-words = refl
+
+product-token-words : tokenWords (tokensOf product-tokens) ≡ range 0 1 ∷ range 5 8 ∷ range 11 12 ∷ []
+unfolding tokenWords tokensOf among
+product-token-words = refl
+
+-- a sheet that begins with a token which begins no statement does not follow the grammar; `)` is one
+module _ {text : List ℕ} {p q : Place} (k : ℕ) (here : kindOf p ≡ k) (not-end : k ≡ kind.Eof → ⊥) (none-starts : among k stmts ≡ false) where
+  no-stmts : Derives text (Stmts kind.Eof) p q → ⊥
+  no-stmts (no-stmt a) = not-end (sym here ∙ a .here)
+  no-stmts (last-stmt d a) = apart k (starts d) none-starts .differs here
+  no-stmts (a-line d a b e) = apart k (starts d) none-starts .differs here
+
+unfollowed : {text : List ℕ} {p q : Place} (k : ℕ) → kindOf p ≡ k → (k ≡ kind.Eof → ⊥) → (k ≡ kind.Eol → ⊥) → among k stmts ≡ false → Derives text (Body kind.Eof) p q → ⊥
+unfollowed k here not-end not-eol none-starts (body-of (no-eol a) d) = no-stmts k here not-end none-starts d
+unfollowed k here not-end not-eol none-starts (body-of (an-eol a b) d) = not-eol (sym here ∙ a .here)
+
+parenthesis : (text : List ℕ) → Follows text (kind.CloseParen ∷ 0 ∷ 1 ∷ []) → ⊥
+unfolding before tokensOf significant isTrivia kindOf among
+parenthesis text f = unfollowed kind.CloseParen refl (eqb-false _ _ refl) (eqb-false _ _ refl) refl (f .body)

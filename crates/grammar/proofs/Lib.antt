@@ -1,0 +1,4 @@
+pub mod Tests
+pub mod Starts
+pub mod Links
+pub mod Examples
