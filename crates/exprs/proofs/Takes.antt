@@ -18,16 +18,16 @@ use Rattle.cursor.specs.Rule.{World, Rule, ifSo}
 use Rattle.cursor.proofs.Ends.{Ends, well, Any, then, weaken, both}
 use Rattle.cursor.proofs.Loops.{left, Takes}
 use Rattle.cursor.proofs.TokenPaths.{there}
-use Rattle.cursor.proofs.Keeps.{Keeps, Plain, ground, ground-stands, gives, binds, thens}
+use Rattle.cursor.proofs.Keeps.{ground-stands, gives, binds, thens}
 use Rattle.cursor.proofs.Kept.{eat-keeps, eat-range-keeps, eat-eol-keeps}
 use Rattle.cursor.proofs.Spends.{Spends, Feeds, Further, takes, always, spares, feeds, either-spends, first-spends, first-feeds, then-spends, if-spends}
 use Rattle.cursor.proofs.Spent.{Found, bump-feeds, eat-spends, expect-spends, eat-range-spends, pick-spends, unexpected-spends}
-use Rattle.types.specs.declared.items.Items.{Items}
-use Rattle.types.specs.Items.{afterItem, oneItem, isEnded}
+use Rattle.types.specs.Items.{isEnded}
 use Rattle.parts.specs.declared.values.Expr.{Expr}
 use Rattle.parts.specs.Values.{linkOf, rowOf}
 use Rattle.exprs.specs.Inner.{Inner}
 use Rattle.parts.specs.Steps.{noMember}
+use Rattle.parts.proofs.UntilPaths.{until-takes}
 use Rattle.parts.specs.Until.{untilTurn}
 use Rattle.exprs.specs.Tables.{item}
 use Rattle.exprs.specs.Primary.{memberChain, access, postfixTurn}
@@ -49,16 +49,6 @@ either-feeds false x y = y
 eof-none : binaryOf kind.Eof ≡ operators.Nothing
 unfolding binaryOf
 eof-none = refl
-
--- an item that goes on takes a comma
-module _ (e : Sheet) where
-  after-item-spends : (end : ℕ) (kids : Kids) (link : ℕ) → Spends e Further (afterItem e end kids link)
-  unfolding afterItem
-  after-item-spends end kids link = then-spends (add-stays kids link) (λ longer. then-spends (eat-eol-keeps e) (λ _. then-spends (eat-keeps e end) (λ b. either-spends b (spares (λ x. x)) (first-spends (expect-spends kind.Comma refl) (λ _. thens (eat-eol-keeps e) (gives tt))))))
-
-  pub until-spends : {rule : Rule ℕ} → Keeps ground Plain rule → (end : ℕ) (i : Items) → Spends e Further (untilTurn e rule end i)
-  unfolding untilTurn oneItem
-  until-spends keeps end i = then-spends (eat-keeps e end) (λ b. either-spends b (spares (λ x. x)) (then-spends keeps (λ link. after-item-spends end (i .kids) link)))
 
 module _ {r : Inner} (h : Stays r) where
   -- operators
@@ -128,7 +118,7 @@ module _ (e : Sheet) (d : ℕ) where
   case-turn-takes = takes (case-spends (knot-stays e d))
 
   pub until-turn-takes : (k end : ℕ) → Takes e (untilTurn e (item (levels e d) k) end)
-  until-turn-takes k end = takes (until-spends e (item-stays (knot-stays e d) k) end)
+  until-turn-takes k end = until-takes e (item (levels e d) k) end (item-stays (knot-stays e d) k)
 
   pub left-turn-takes : Takes e (leftTurn (levels e d))
   left-turn-takes = takes (left-spends (knot-stays e d))

@@ -1,23 +1,21 @@
 -- Each way through a list of items up to its end, what the list keeps, and that each turn that goes on takes a comma. The item rule and the end
 -- are whatever the list has: items of an import, arguments, elements, properties.
-use mathlib.Core.Path.{_≡_, refl}
+use mathlib.Core.Path.{_≡_}
 use mathlib.Core.Bool.{Bool, true, false}
 use Prim.Native.Nat.{ℕ}
-use Rattle.kinds.specs.Number as kind
 use Rattle.cursor.specs.declared.State.{State}
 use Rattle.cursor.specs.declared.Kids.{Kids}
 use Rattle.cursor.specs.Sheet.{Sheet}
-use Rattle.cursor.specs.Rule.{World, Stop, done, failed, Rule, _>>_, give, ifSo, more, stop, iterate}
+use Rattle.cursor.specs.Rule.{World, Stop, done, failed, Rule, _>>=_, give, ifSo, stop, iterate}
 use Rattle.cursor.specs.Tokens.{eatEol}
-use Rattle.cursor.specs.Checks.{eat, expect}
+use Rattle.cursor.specs.Checks.{eat}
 use Rattle.types.specs.declared.items.Items.{Items}
 use Rattle.types.specs.Items.{so, afterItem, oneItem}
 use Rattle.cursor.proofs.Loops.{Takes}
 use Rattle.cursor.proofs.Keeps.{Mark, Keeps, Plain, Nexts, ground, gives, ifs, binds, thens, loops}
-use Rattle.cursor.proofs.Kept.{eat-keeps, eat-eol-keeps, add-keeps, Fresh, RowFor, fresh-mine, ground-mine}
-use Rattle.cursor.proofs.Spends.{Spends, Further, takes, spares, first-spends, then-spends}
-use Rattle.cursor.proofs.Spent.{expect-spends}
-use Rattle.types.proofs.ItemKeeps.{ItemsFor, after-item-keeps}
+use Rattle.cursor.proofs.Kept.{eat-keeps, eat-eol-keeps, Fresh, RowFor, fresh-mine}
+use Rattle.cursor.proofs.Spends.{Spends, Further, takes, spares, then-spends}
+use Rattle.types.proofs.ItemKeeps.{ItemsFor, after-item-keeps, after-item-spends}
 use Rattle.parts.specs.Until.{untilTurn, itemsUntil}
 
 module _ (e : Sheet) (item : Rule ℕ) (end : ℕ) where
@@ -60,15 +58,13 @@ module _ {m : Mark} (e : Sheet) (item : Rule ℕ) (end : ℕ) (keeps : Keeps m (
 
 -- each turn that goes on takes a comma
 module _ (e : Sheet) (item : Rule ℕ) (end : ℕ) (keeps : Keeps ground Plain item) where
-  comma-spends : (longer : Kids) (b : Bool) → Spends e Further (ifSo (give (stop (so longer))) (expect e kind.Comma >> (eatEol e >> give (more (so longer)))) b)
-  comma-spends longer true = spares (λ x. x)
-  comma-spends longer false = first-spends (expect-spends kind.Comma refl) (λ _. thens (eat-eol-keeps e) (gives tt))
-
-  begun-spends : (i : Items) (b : Bool) → Spends e Further (ifSo (give (stop i)) (oneItem e item end i) b)
-  unfolding oneItem afterItem
-  begun-spends i true = spares (λ x. x)
-  begun-spends i false = then-spends keeps (λ r. then-spends (add-keeps (i .kids) r (ground-mine _) (ground-mine r)) (λ longer. then-spends (eat-eol-keeps e) (λ _. then-spends (eat-keeps e end) (comma-spends longer))))
+  until-spends : (i : Items) → Spends e Further (untilTurn e item end i)
+  unfolding untilTurn oneItem
+  until-spends i = then-spends (eat-keeps e end) (λ b. by b)
+    where
+      by : (b : Bool) → Spends e Further (ifSo (give (stop i)) (item >>= (λ r. afterItem e end (i .kids) r)) b)
+      by true = spares (λ x. x)
+      by false = then-spends keeps (λ r. after-item-spends e end (i .kids) r)
 
   pub until-takes : Takes e (untilTurn e item end)
-  unfolding untilTurn
-  until-takes = takes (λ i. then-spends (eat-keeps e end) (begun-spends i))
+  until-takes = takes until-spends

@@ -98,7 +98,7 @@ module _ {m : Mark} (e : Sheet) where
 
 -- each turn of a list that goes on takes a comma
 module _ (e : Sheet) where
-  after-item-spends : (end : ℕ) (kids : Kids) (r : ℕ) → Spends e Further (afterItem e end kids r)
+  pub after-item-spends : (end : ℕ) (kids : Kids) (r : ℕ) → Spends e Further (afterItem e end kids r)
   unfolding afterItem
   after-item-spends end kids r =
       then-spends (add-keeps kids r (ground-mine _) (ground-mine r)) (λ longer. then-spends (eat-eol-keeps e) (λ _. then-spends (eat-keeps e end) (λ b. by longer b)))
