@@ -66,6 +66,10 @@ rowOver k from q i = made k from q 0 0 (flagged (i .count) 0 false false) (i .ro
 abbrev pub rowBefore : ℕ → ℕ → Place → Shape → Trees → Shape
 rowBefore k from q i t = made k from q 0 0 (flagged (i .count) 0 false false) (join (i .row) t)
 
+-- a row that may have a last item, which is a value
+abbrev pub lastedRow : ℕ → ℕ → Place → Shape → Shape
+lastedRow k from q i = made k from q 0 0 (flagged (i .count) 0 (isEnded (i .last)) false) (i .row)
+
 -- a row that may have a last item; where that is a bare `...` its range is words of the record
 abbrev pub endedRow : ℕ → ℕ → Place → Shape → Shape
 endedRow k from q i = made k from q (rangeOf (i .last) .start) (rangeOf (i .last) .end) (flagged (i .count) 0 (isEnded (i .last)) false) (i .row)

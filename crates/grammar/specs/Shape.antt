@@ -144,6 +144,7 @@ use Rattle.grammar.specs.Builders.{
   couple,
   rowOver,
   rowBefore,
+  lastedRow,
   endedRow,
   signature,
   fnOver,
@@ -182,7 +183,7 @@ shape (no-bar h) x so = so
 shape (a-bar a d e) x so = shape e x (more so (shape d 0 blank))
 shape (ty-paren {p = p} {s = s} a d b) x so = over node.TyParen (startOf p) s (shape d 0 blank)
 shape (ty-name d) x so = shape d 0 blank
-shape (ty-table {p = p} {r = r} a d) x so = endedRow node.TyTable (startOf p) r (shape d 0 blank)
+shape (ty-table {p = p} {r = r} a d) x so = lastedRow node.TyTable (startOf p) r (shape d 0 blank)
 shape (ty-function {p = p} {s = s} a d e) x so = signature node.TyFunction (startOf p) s (shape d 0 blank) (shape e 0 blank) none
 shape (ty-literal d) x so = shape d 0 blank
 shape (ty-pair {p = p} {s = s} d a e) x so = couple node.TableTyPair (startOf p) s (shape d 0 blank) (shape e 0 blank)
@@ -191,8 +192,8 @@ shape (no-type h) x so = blank
 shape (returned a d) x so = shape d 0 blank
 shape (bare d h) x so = shape d 0 blank
 shape (typed {p = p} {s = s} d a e) x so = couple node.TypedIdent (startOf p) s (shape d 0 blank) (shape e 0 blank)
-shape (params-of a d) x so = shape d 0 blank
-shape (closure-params a d) x so = shape d 0 blank
+shape (params-of a d) x so = shape d x so
+shape (closure-params a d) x so = shape d x so
 -- patterns
 shape (pattern-name d) x so = shape d 0 blank
 shape (pattern-table {p = p} {r = r} a d) x so = endedRow node.PatternTable (startOf p) r (shape d 0 blank)
