@@ -1,5 +1,5 @@
-// Expressions, blocks and statements: the one big cycle of calls. Depth is used up by `exprs` and `precedence` alone. The names are
-// parser.rs's without `parse_` and `expr_`; those of the parts that are functions here say which part they read.
+// Expressions, blocks and statements: the one big cycle of calls. Depth is used up by `exprs` and `prec` alone. Names are parser.rs's without
+// `parse_` and `expr_`, some cut short for the proof's folder, which has them all; each comment names the Rust's function or the part that is read.
 ghost use mathlib.Core.Path.{_≡_};
 ghost use mathlib.Core.List.{List};
 ghost use Prim.Native.Nat.{ℕ};
