@@ -59,7 +59,7 @@ module _ (ws : List ℕ) where
   abbrev pub view : ℕ → List Token
   view i = significant (drop i (tokensOf ws))
 
-  in-range : (i : ℕ) → i < length ws / 3 → kindAt ws i ≡ getD ws (i * 3) 0
+  pub in-range : (i : ℕ) → i < length ws / 3 → kindAt ws i ≡ getD ws (i * 3) 0
   unfolding kindAt count
   in-range i h = rw (lt-ltb _ _ h, kindAt) refl
 

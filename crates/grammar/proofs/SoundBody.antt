@@ -1,5 +1,5 @@
 -- Statements in a row, with their recovery: parse_exprs; and blocks.
-use mathlib.Core.Path.{_≡_, refl, sym, ap, _∙_}
+use mathlib.Core.Path.{_≡_, refl, sym, ap}
 use mathlib.Core.List.{List, [], _∷_}
 use mathlib.Core.Bool.{false}
 use Prim.Native.Nat.{ℕ, suc, _+_}
@@ -13,7 +13,7 @@ use Rattle.cursor.specs.Rule.{Next, more, stop}
 use Rattle.cursor.specs.Checks.{unexpectedAt}
 use Rattle.cursor.specs.Records.{noKids, flagged}
 use Rattle.cursor.specs.Tree.{Trees, none, tree}
-use Rattle.cursor.proofs.Stack.{Entry, whole, Stack, link-some}
+use Rattle.cursor.proofs.Stack.{Entry, whole, Stack}
 use Rattle.cursor.proofs.Grows.{begin, as-row}
 use Rattle.types.specs.declared.items.Items.{Items as Row}
 use Rattle.parts.specs.Records.{blockRecord, wrapped as wrapped-rule}
@@ -31,7 +31,7 @@ use Rattle.grammar.specs.Builders.{blank, only, more as longer, covered}
 use Rattle.grammar.specs.Shape.{shape}
 use Rattle.grammar.proofs.Sound.{Spot, at, Claim, Seq, _▸_, Gave, gave, answer, not-both, If, Nothing, Star, halt, turn, Sound, gives, maps, ifs, binds, recovers, log-sound, loops}
 use Rattle.grammar.proofs.SoundSteps.{Took, took, Ate, yes-ate, not-ate, Saw, yes-saw, not-saw, Lined, lined, bump-sound, check-sound, eat-sound, expect-sound, pick-sound, eat-eol-sound}
-use Rattle.grammar.proofs.SoundValues.{Value, value, wrapped, relabel, Started, started, labelled, Closed, closed, SomeAdded, some-added, start-sound, close-sound, add-some-sound}
+use Rattle.grammar.proofs.SoundValues.{Value, value, wrapped, joined, unlinked, relabel, Started, started, labelled, Closed, closed, SomeAdded, none-added, some-added, start-sound, close-sound, add-some-sound}
 use Rattle.grammar.proofs.SoundItems.{sofar, as-shape, Listed, listed, word-more, word-flags}
 use Rattle.grammar.proofs.SoundNames.{Rowing}
 use Rattle.grammar.proofs.SoundEffects.{Becomes, becomes}
@@ -64,24 +64,30 @@ module _ (e : Sheet) (end : ℕ) where
       (binds e (recovers e (expect-sound e kind.Eol) (λ a. gives e) (gives e)) (λ _. binds e (eat-eol-sound e) (λ _. binds e (add-some-sound e kids link) (λ all. gives e)))))))
 
   -- a statement and its line's end, and the statements from there on
-  and-line : {p q r s : Place} {n m a last : ℕ} {xs ys zs : List ℕ} {l : Label} {ks : Trees} {v : Spot} {j : Row} {kids k : Kids} (b : Derives (e .text) Stmt p q) → shape b 0 blank ≡ only (tree l ks) → ((es : List Entry) → Stack xs n es → Stack ys m (whole n a last l ks ∷ es))
-      → Tok kind.Eol q r → Derives (e .text) Eols r s → SomeAdded kids a (at s m ys) (at s m zs) k → Listed (e .text) (Stmts end) k (at s m zs) v j → Listed (e .text) (Stmts end) kids (at p n xs) v j
+  and-line : {p q r s : Place} {n m a last : ℕ} {xs ys : List ℕ} {l : Label} {ks : Trees} {v w : Spot} {j : Row} {kids k : Kids} (b : Derives (e .text) Stmt p q) → shape b 0 blank ≡ only (tree l ks) → ((es : List Entry) → Stack xs n es → Stack ys m (whole n a last l ks ∷ es))
+      → Tok kind.Eol q r → Derives (e .text) Eols r s → SomeAdded kids a (at s m ys) w k → Listed (e .text) (Stmts end) k w v j → Listed (e .text) (Stmts end) kids (at p n xs) v j
   unfolding shape
-  and-line b s f t o (some-added h _ c) (listed d g) = listed (a-line b t o d) (λ lo i ts es u st.
-      let x = f _ st in
-      as-shape (ap (λ z. shape d 0 (longer (sofar ts i) z)) (sym s)) (g lo (i + 1) _ es (c (link-some x) ∙ word-more i u) (h _ _ _ _ _ _ es x)))
+  and-line {kids = kids} b s f t o (some-added {i = a}) (listed d g) =
+      listed (a-line b t o d) (λ lo i ts es u st. as-shape (ap (λ z. shape d 0 (longer (sofar ts i) z)) (sym s)) (g lo (i + 1) _ es (word-more i u) (joined kids (suc a) (f _ st))))
+  and-line b s f t o none-added (listed d g) = listed (a-line b t o d) (λ lo i ts es u st. absurd (unlinked (f _ st)))
+
+  -- the last one
+  and-end : {p q r : Place} {n m a last : ℕ} {xs ys : List ℕ} {l : Label} {ks : Trees} {v : Spot} {kids k : Kids} (b : Derives (e .text) Stmt p q) → shape b 0 blank ≡ only (tree l ks) → ((es : List Entry) → Stack xs n es → Stack ys m (whole n a last l ks ∷ es))
+      → Tok end q r → SomeAdded kids a (at r m ys) v k → Rowing (e .text) (Stmts end) kids (at p n xs) v k
+  unfolding shape
+  and-end {kids = kids} b s f t (some-added {i = a}) =
+      listed (last-stmt b t) (λ lo c ts es u st. as-shape (ap (λ z. longer (sofar ts c) z) (sym s)) (record { stack = joined kids (suc a) (f _ st); count = word-more c u; last = refl }))
+  and-end b s f t none-added = listed (last-stmt b t) (λ lo c ts es u st. absurd (unlinked (f _ st)))
 
   stmts-read : {u v : Spot} {kids k : Kids} → Star BodyTurn kids u v k → Rowing (e .text) (Stmts end) kids u v k
   unfolding shape
   stmts-read (halt (yes-ate t ▸ gave)) = listed (no-stmt t) (λ lo c ts es u st. record { stack = st; count = u; last = refl })
-  stmts-read (halt (not-ate n ▸ (value b s f ▸ gave) ▸ yes-ate t ▸ some-added h _ o ▸ gave)) = listed (last-stmt b t) (λ lo c ts es u st.
-      let x = f _ st in
-      as-shape (ap (λ z. longer (sofar ts c) z) (sym s)) (record { stack = h _ _ _ _ _ _ es x; count = o (link-some x) ∙ word-more c u; last = refl }))
-  stmts-read (turn (not-ate n ▸ (value b s f ▸ gave) ▸ not-ate m ▸ not-saw i ▸ (took t ▸ gave) ▸ lined l ▸ some-added h y o ▸ gave) r) = and-line b s f t l (some-added h y o) (stmts-read r)
+  stmts-read (halt (not-ate n ▸ (value b s f ▸ gave) ▸ yes-ate t ▸ k ▸ gave)) = and-end b s f t k
+  stmts-read (turn (not-ate n ▸ (value b s f ▸ gave) ▸ not-ate m ▸ not-saw i ▸ (took t ▸ gave) ▸ lined l ▸ k ▸ gave) r) = and-line b s f t l k (stmts-read r)
   stmts-read (halt (not-ate n ▸ x ▸ not-ate m ▸ yes-saw i ▸ q ▸ z)) = absurd q
-  stmts-read (halt (not-ate n ▸ x ▸ not-ate m ▸ not-saw i ▸ y ▸ lined l ▸ some-added h _ o ▸ g)) = absurd (not-both (answer g))
+  stmts-read (halt (not-ate n ▸ x ▸ not-ate m ▸ not-saw i ▸ y ▸ lined l ▸ k ▸ g)) = absurd (not-both (answer g))
   stmts-read (turn (yes-ate t ▸ g) r) = absurd (not-both (sym (answer g)))
-  stmts-read (turn (not-ate n ▸ x ▸ yes-ate t ▸ some-added h _ o ▸ g) r) = absurd (not-both (sym (answer g)))
+  stmts-read (turn (not-ate n ▸ x ▸ yes-ate t ▸ k ▸ g) r) = absurd (not-both (sym (answer g)))
   stmts-read (turn (not-ate n ▸ x ▸ not-ate m ▸ yes-saw i ▸ q ▸ z) r) = absurd q
 
   -- parse_exprs

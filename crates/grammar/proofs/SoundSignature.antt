@@ -19,7 +19,7 @@ use Rattle.grammar.specs.Derives.{Derives}
 use Rattle.grammar.specs.Builders.{Shape, blank, some}
 use Rattle.grammar.specs.Shape.{shape}
 use Rattle.grammar.proofs.Sound.{Spot, at}
-use Rattle.grammar.proofs.SoundValues.{value, Optional, some-value, no-value, retree, SomeAdded, some-added}
+use Rattle.grammar.proofs.SoundValues.{value, Optional, some-value, no-value, joined, unlinked, retree, SomeAdded, none-added, some-added}
 use Rattle.grammar.proofs.SoundItems.{Listed, listed, list-flags}
 
 pub record SignedOn (ys : List ℕ) (m lo : ℕ) (i : Row) (r : ℕ) (kids : Kids) (f g : Shape) (es : List Entry) : Type 0 where
@@ -35,13 +35,14 @@ pub data Signed (text : List ℕ) (z : Sym) (i : Row) (r : ℕ) (kids : Kids) : 
       → Signed text z i r kids (at p n xs) (at o m ys)
 
 pub signed : {text : List ℕ} {z : Sym} {i : Row} {r : ℕ} {kids : Kids} {u v w t : Spot} → Listed text z noKids u v i → Optional text Returns v w r → SomeAdded (i .kids) r w t kids → Signed text z i r kids u t
-signed (listed d f) (some-value (value {a = a} b s g)) (some-added k _ _) = signed-by d b (λ es st.
+signed (listed {j = i} d f) (some-value (value {a = a} b s g)) some-added = signed-by d b (λ es st.
     let l = f _ 0 none es refl (begin st) in
     let t = g _ (l .stack) in
     signed-as (sym s) (record {
-      stack = k _ _ _ _ _ _ es t;
+      stack = joined (i .kids) a t;
       flags = list-flags (ltb 0 a) l ∙ ap (λ z. flagged (shape d 0 blank .count) 0 (isEnded (shape d 0 blank .last)) z) (lt-ltb 0 a (link-some t));
     }))
-signed (listed d f) (no-value b s) (some-added _ k _) = signed-by d b (λ es st.
+signed (listed d f) (some-value (value b s g)) none-added = signed-by d b (λ es st. absurd (unlinked (g _ (f _ 0 none es refl (begin st) .stack))))
+signed (listed d f) (no-value b s) none-added = signed-by d b (λ es st.
     let l = f _ 0 none es refl (begin st) in
-    signed-as (sym s) (record { stack = retree (sym (join-none (shape d 0 blank .row))) (k refl _ _ es (l .stack)); flags = list-flags false l }))
+    signed-as (sym s) (record { stack = retree (sym (join-none (shape d 0 blank .row))) (l .stack); flags = list-flags false l }))

@@ -169,7 +169,7 @@ module _ (e : Sheet) where
       go false q = rw (q, rangeAt) (ap spanIn (view-past (e .tokens) _ (ltb-false _ _ q)))
 
   -- where the input has not ended the token here has one
-  range-place : (s : State) (k : ℕ) → (k ≡ kind.Eof → ⊥) → Settled (e .tokens) s → kindOf (placeAt (e .tokens) s) ≡ k → rangeAt (e .tokens) (s .at) ≡ ranged.At (spanOf (placeAt (e .tokens) s))
+  pub range-place : (s : State) (k : ℕ) → (k ≡ kind.Eof → ⊥) → Settled (e .tokens) s → kindOf (placeAt (e .tokens) s) ≡ k → rangeAt (e .tokens) (s .at) ≡ ranged.At (spanOf (placeAt (e .tokens) s))
   range-place s k n h q =
       let r = range-in (e .tokens) (s .at) (there (e .tokens) (s .at) (λ z. n (sym q ∙ kind-place (e .tokens) s h ∙ z))) in
       r ∙ ap ranged.At (sym (span-place s h ∙ ap rangeOf r))

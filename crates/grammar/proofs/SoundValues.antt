@@ -2,7 +2,7 @@
 use mathlib.Core.Path.{_≡_, refl, sym, ap, _∙_, subst}
 use mathlib.Core.List.{List, [], _∷_}
 use mathlib.Core.Bool.{Bool, true, false, true≢false}
-use Prim.Native.Nat.{ℕ, zero, suc, _+_, _*_, _/_, _<_, _≤_}
+use Prim.Native.Nat.{ℕ, zero, suc, _+_, _*_, _/_, _≤_}
 use native.Mathlib.Omega.{arith}
 use native.Mathlib.Numerals.{add-one}
 use lib.ListN.{length}
@@ -19,7 +19,7 @@ use Rattle.cursor.specs.Layout.{nodeWords}
 use Rattle.cursor.specs.Node as node
 use Rattle.cursor.specs.Sheet.{Sheet, count, kindAt, rangeAt}
 use Rattle.cursor.specs.Rule.{World, world}
-use Rattle.cursor.specs.Records.{word32, write, noKids}
+use Rattle.cursor.specs.Records.{write, noKids}
 use Rattle.cursor.specs.Tree.{Trees, none, join, tree}
 use Rattle.cursor.proofs.Ends.{well, ill}
 use Rattle.cursor.proofs.RecordPaths.{linked, added}
@@ -65,7 +65,7 @@ pub joined : {xs : List ℕ} {n lo mid last : ℕ} {l : Label} {ts ks : Trees} {
 joined {xs} {n} k link st = add-stack k link (record { at = 0; prev = 0; reads = 0; nodes = n; errors = 0; wanted = 0; live = 0 }) (world xs [] [] []) st .stack
 
 -- no tree stands behind the link 0
-unlinked : {xs : List ℕ} {n lo last : ℕ} {l : Label} {ks : Trees} {es : List Entry} → Stack xs n (whole lo 0 last l ks ∷ es) → ⊥
+pub unlinked : {xs : List ℕ} {n lo last : ℕ} {l : Label} {ks : Trees} {es : List Entry} → Stack xs n (whole lo 0 last l ks ∷ es) → ⊥
 unlinked st = let h = link-some st in omega (arith, h)
 
 -- an entry by another label that is the same
@@ -93,10 +93,9 @@ pub data Paired (k from a b : ℕ) : Spot → Spot → ℕ → Type 0 where
       → Paired k from a b (at p n xs) (at p m ys) c
 
 -- one more in a row, where there is one
-pub data SomeAdded (kids : Kids) (a : ℕ) : Spot → Spot → Kids → Type 0 where
-  some-added : {p : Place} {n : ℕ} {xs ys : List ℕ} {k : Kids}
-      → ((lo mid last : ℕ) (l : Label) (ts ks : Trees) (es : List Entry) → Stack xs n (whole mid a last l ks ∷ row lo (kids .first) (kids .last) ts ∷ es) → Stack ys n (row lo (k .first) (k .last) (join ts (tree l ks)) ∷ es))
-      → (a ≡ 0 → (ts : Trees) (lo : ℕ) (es : List Entry) → Stack xs n (row lo (kids .first) (kids .last) ts ∷ es) → Stack ys n (row lo (k .first) (k .last) ts ∷ es)) → (0 < a → k .count ≡ word32 (kids .count + 1)) → SomeAdded kids a (at p n xs) (at p n ys) k
+pub data SomeAdded (kids : Kids) : ℕ → Spot → Spot → Kids → Type 0 where
+  none-added : {x : Spot} → SomeAdded kids 0 x x kids
+  some-added : {p : Place} {n i : ℕ} {xs : List ℕ} → SomeAdded kids (suc i) (at p n xs) (at p n (linked xs (kids .last) (suc i))) (added kids (suc i))
 
 module _ (e : Sheet) where
   pub add-some-sound : (kids : Kids) (a : ℕ) → Sound e (SomeAdded kids a) (addSome kids a)
@@ -104,11 +103,11 @@ module _ (e : Sheet) where
   add-some-sound kids zero = maps e (λ x y k c. go c) (gives e)
     where
       go : {x y : Spot} {k : Kids} → Gave kids x y k → SomeAdded kids 0 x y k
-      go (gave {x = at p n xs}) = some-added (λ lo mid last l ts ks es st. absurd (unlinked st)) (λ _ ts lo es st. st) (λ h. absurd (omega (arith, h)))
+      go gave = none-added
   add-some-sound kids (suc i) = maps e (λ x y k c. go c) (add-sound e kids (suc i))
     where
       go : {x y : Spot} {k : Kids} → Added kids (suc i) x y k → SomeAdded kids (suc i) x y k
-      go added-to = some-added (λ lo mid last l ts ks es st. joined kids (suc i) st) (λ q. absurd (omega (arith, q))) (λ _. refl)
+      go added-to = some-added
 
   pub start-sound : Sound e Started (start e)
   unfolding start
