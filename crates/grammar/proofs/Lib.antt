@@ -25,10 +25,12 @@ pub mod SoundMatch
 pub mod SoundAtoms
 pub mod SoundMembers
 pub mod SoundPrimary
-pub mod SoundLevel
 pub mod Ahead
 pub mod FewLefts
 pub mod WholeSheet
+pub mod KeepsRow
+pub mod KeepsExprs
+pub mod KeepsStmts
 pub mod SoundImports
 pub mod SoundSides
 pub mod SoundAssign
