@@ -120,6 +120,16 @@ module _ (kind : ℕ) (s : List ℕ) where
   unfolding badQuotes
   quotes-none p q r = rw (ne-eqb _ _ p, ne-eqb _ _ q, ne-eqb _ _ r)
 
+  -- the three stand side by side
+  pub quotes-below : kind < STR → badQuotes kind s ≡ false
+  quotes-below p = quotes-none (λ e. omega (arith, e)) (λ e. omega (arith, e)) (λ e. omega (arith, e))
+
+  pub quotes-above : BYTE-STR < kind → badQuotes kind s ≡ false
+  quotes-above p = quotes-none (λ e. omega (arith, e)) (λ e. omega (arith, e)) (λ e. omega (arith, e))
+
+  pub quotes-last : STR ≤ kind → kind ≤ BYTE-STR → (kind ≡ STR → ⊥) → (kind ≡ RAW-STR → ⊥) → badQuotes kind s ≡ not (marked 0x62 s)
+  quotes-last low high p q = quotes-byte (omega (arith, p, q))
+
 module _ (at : ℕ → Bool) (text : List ℕ) (last kind start end : ℕ) where
   pub fault-kind : badKind kind ≡ true → tokenFault at text last kind start end ≡ Refused BadKind
   unfolding tokenFault

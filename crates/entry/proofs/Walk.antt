@@ -4,10 +4,11 @@ use native.Mathlib.Omega.{arith}
 use mathlib.Core.Path.{_≡_, refl, sym, _∙_}
 use mathlib.Core.Bool.{Bool, true, false, cond, false≢true}
 use mathlib.Core.List.{List, [], _∷_}
-use lib.ListN.{length, drop, length-drop, drop-of-length-le}
+use lib.ListN.{length, getD, drop, length-drop, drop-of-length-le}
 use lib.Seq.{drop-cons, drop-drop}
 use Rattle.entry.specs.Utf8.{Form, forms, holds, fits, firstFit, charLength, arrives, isUtf8}
 use Rattle.entry.proofs.Logic.{both}
+use Rattle.entry.proofs.Fits.{char-ascii, char-here}
 
 -- a character lies within the text
 fits-length : (f : Form) (t : List ℕ) → fits f t ≡ true → length f ≤ length t
@@ -63,6 +64,9 @@ module _ (t : List ℕ) (k : ℕ) where
   utf8-step (suc n) p z e =
       let s : suc k + n ≡ k + suc n = omega arith in
       rw (drop-cons t k 0 p) (utf8-cons _ _ n (sym (rw (drop-cons t k 0 p) at e)) ∙ rw (drop-drop n (suc k) t, s))
+
+  pub utf8-ascii : k < length t → getD t k 0 < 0x80 → isUtf8 (drop k t) ≡ isUtf8 (drop (k + 1) t)
+  utf8-ascii p q = utf8-step 1 p (λ e. omega (arith, e)) (sym (char-here t k p ∙ char-ascii _ _ (omega arith)))
 
   pub char-room : (n : ℕ) → k ≤ length t → n ≡ charLength (drop k t) → k + n ≤ length t
   char-room n p e = let h = char-within (drop k t) in let l = length-drop k t in omega arith

@@ -137,6 +137,11 @@ fn is_utf8(text: &[u8]) -> bool
 {
     let mut at = 0;
     while at < text.len() {
+        // Most bytes are a character by themselves: they are told here, in a turn of a few instructions, and the rows are kept for the others.
+        if text[at] < 0x80 {
+            at += 1;
+            continue;
+        }
         let n = char_length(text, at);
         if n == 0 {
             return false;
@@ -223,16 +228,20 @@ fn marks(letter: u8, s: &[u8]) -> bool
 fn bad_quotes(kind: u32, s: &[u8]) -> bool
     ensures { λ r. ⌜ r ≡ badQuotes kind (now (s .entry)) ⌝ }
 {
+    // The three kinds stand side by side and most tokens are of none of them, which the compiler makes one test of.
+    if kind < STR {
+        return false;
+    }
+    if BYTE_STR < kind {
+        return false;
+    }
     if kind == STR {
         return !quotes(s);
     }
     if kind == RAW_STR {
         return !marks(b'r', s);
     }
-    if kind == BYTE_STR {
-        return !marks(b'b', s);
-    }
-    false
+    !marks(b'b', s)
 }
 
 // The fault of a token after one that ended at `last`.
