@@ -1,6 +1,6 @@
 -- Sheets that follow the grammar: their derivations, and that the tree read off each is the one which the table of known outcomes has for it
 -- (crates/known/specs/Known.antt; that crate is over the parser, so its trees are written out again here). At the end one that does not.
-use Prim.Native.Nat.{ℕ, _*_, _≤_}
+use Prim.Native.Nat.{ℕ, suc, _*_, _≤_}
 use mathlib.Core.Path.{_≡_, refl, sym, _∙_}
 use mathlib.Core.List.{List, [], _∷_}
 use mathlib.Core.Bool.{true, false}
@@ -14,7 +14,7 @@ use Rattle.ints.specs.Spelling.{kept, radixBy, radixOf, afterPrefix, signBy, di
 use Rattle.ints.specs.Answer.{judged, firstOf, numberOf, afterwards, fromStrRadix, intOf}
 use Rattle.cursor.specs.declared.Label.{Label}
 use Rattle.cursor.specs.Node as record-of
-use Rattle.cursor.specs.Tree.{Trees, none, node, tree, join}
+use Rattle.cursor.specs.Tree.{Trees, none, node, tree, join, size}
 use Rattle.types.specs.Lits.{literal, intLiteral}
 use Rattle.parts.specs.Steps.{checkedType}
 use Rattle.grammar.specs.Places.{Place, kindOf, spanOf, after, Tok, Not, Free, tokensOf, significant, before, opening}
@@ -61,8 +61,10 @@ use Rattle.grammar.specs.Shape.{shape}
 use Rattle.grammar.specs.Follows.{Follows, treeOf}
 use Rattle.grammar.specs.Words.{among, range, tokenWords, ownWord, words}
 use Rattle.grammar.specs.Words as word
+use Rattle.grammar.specs.Marks.{again, marksAt, marks, readings}
 use Rattle.grammar.proofs.Tests.{takes, other, free}
 use Rattle.grammar.proofs.Starts.{stmts, apart, starts}
+use Rattle.grammar.proofs.Uses.{records, need}
 
 -- a record: its kind, start and end, two words and flags
 abbrev says : ℕ → ℕ → ℕ → ℕ → ℕ → ℕ → Label
@@ -257,6 +259,56 @@ product-words = refl
 product-token-words : tokenWords (tokensOf product-tokens) ≡ range 0 1 ∷ range 5 8 ∷ range 11 12 ∷ []
 unfolding tokenWords tokensOf among
 product-token-words = refl
+
+-- how often their tokens are read, by the marks: each sum is the one that the table of known outcomes has
+nothing-reads : (text : List ℕ) → readings (marks (nothing text .body)) ≡ 0
+unfolding nothing marksAt readings before tokensOf significant after
+nothing-reads text = refl
+
+product-reads : readings (marks (product .body)) ≡ 5
+unfolding product alone marksAt readings before tokensOf significant isTrivia after
+product-reads = refl
+
+empty-table-reads : (text : List ℕ) → readings (marks (empty-table text .body)) ≡ 3
+unfolding empty-table alone marksAt readings before tokensOf significant isTrivia after
+empty-table-reads text = refl
+
+number-block-reads : readings (marks (number-block .body)) ≡ 4
+unfolding number-block alone marksAt again readings before tokensOf significant isTrivia after
+number-block-reads = refl
+
+group-table-reads : readings (marks (group-table .body)) ≡ 7
+unfolding group-table alone marksAt readings before tokensOf significant isTrivia after
+group-table-reads = refl
+
+nested-marks : (text : List ℕ) → marks (nested text .body) ≡ 0 ∷ 1 ∷ 1 ∷ 2 ∷ 2 ∷ 2 ∷ 1 ∷ 1 ∷ 0 ∷ []
+unfolding nested braced alone marksAt again before tokensOf significant isTrivia after
+nested-marks text = refl
+
+nested-reads : (text : List ℕ) → readings (marks (nested text .body)) ≡ 22
+unfolding nested braced alone marksAt again readings before tokensOf significant isTrivia after
+nested-reads text = refl
+
+nameless-reads : (text : List ℕ) → readings (marks (nameless text .body)) ≡ 6
+unfolding nameless alone marksAt again readings before tokensOf significant isTrivia after
+nameless-reads text = refl
+
+-- one record for the program and those of its statements are the records of the tree; the innermost name stands seven levels below the statements
+product-records : suc (records (product .body)) ≡ size (treeOf product)
+unfolding product alone records shape treeOf join size
+product-records = refl
+
+nested-records : (text : List ℕ) → suc (records (nested text .body)) ≡ size (treeOf (nested text))
+unfolding nested braced alone records shape treeOf join size
+nested-records text = refl
+
+nested-levels : (text : List ℕ) → need (nested text .body) ≡ 7
+unfolding nested braced alone need
+nested-levels text = refl
+
+nameless-records : (text : List ℕ) → suc (records (nameless text .body)) ≡ size (treeOf (nameless text))
+unfolding nameless alone records shape treeOf join size
+nameless-records text = refl
 
 -- a sheet that begins with a token which begins no statement does not follow the grammar; `)` is one
 module _ {text : List ℕ} {p q : Place} (k : ℕ) (here : kindOf p ≡ k) (not-end : k ≡ kind.Eof → ⊥) (none-starts : among k stmts ≡ false) where

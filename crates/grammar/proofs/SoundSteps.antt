@@ -112,7 +112,7 @@ module _ (e : Sheet) where
   misses h n = record { differs = λ q. n (sym (kind-place (e .tokens) _ h) ∙ q) }
 
   -- past the last token one stays there
-  after-end : (s : State) → length (e .tokens) / 3 ≤ s .at → after (placeAt (e .tokens) s) ≡ placeAt (e .tokens) s
+  pub after-end : (s : State) → length (e .tokens) / 3 ≤ s .at → after (placeAt (e .tokens) s) ≡ placeAt (e .tokens) s
   unfolding after
   after-end s q = rw (view-past (e .tokens) (s .at) q) refl
 
