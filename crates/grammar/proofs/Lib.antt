@@ -36,6 +36,7 @@ pub mod SoundSides
 pub mod SoundAssign
 pub mod SoundStmts
 pub mod SoundKnot
+pub mod Outset
 pub mod SoundProgram
 pub mod UnambiguousClaims
 pub mod UnambiguousBelow
@@ -78,3 +79,10 @@ pub mod WordsOfAll
 pub mod MarkSums
 pub mod Marked
 pub mod MarkLengths
+pub mod Leading
+pub mod MeetsTables
+pub mod MeetsAssign
+pub mod MeetsStmts
+pub mod MeetsBody
+pub mod MeetsKnot
+pub mod MeetsProgram

@@ -1,23 +1,20 @@
 -- A whole sheet: where its rule is done and logged no error, the sheet follows the grammar, the last record means the sheet's tree, and each record
 -- belongs to that tree exactly once. This holds of any buffer with the same records below the count, as what lies past it is cleared in the end.
 use mathlib.Core.Path.{_≡_, refl, sym, ap, _∙_, subst}
-use mathlib.Core.List.{List, [], _∷_}
+use mathlib.Core.List.{List, []}
 use mathlib.Core.Bool.{false}
-use Prim.Native.Nat.{ℕ, zero, suc, _+_, _-_, _*_, _/_, _^_, _<_, _≤_, max}
+use Prim.Native.Nat.{ℕ, suc, _+_, _*_, _^_, _<_, _≤_, max}
 use native.Mathlib.Nat.{le-refl}
 use native.Mathlib.Omega.{arith}
 use lib.ListN.{length}
-use borrow.Author.Tests.{lt-ltb}
 use Rattle.kinds.specs.Number as kind
-use Rattle.kinds.specs.Kinds.{isTrivia}
 use Rattle.cursor.specs.declared.State.{State}
 use Rattle.cursor.specs.declared.Kids.{Kids}
 use Rattle.cursor.specs.declared.Label.{Label}
 use Rattle.cursor.specs.Layout.{nodeWords}
 use Rattle.cursor.specs.Node as node
-use Rattle.cursor.specs.Sheet.{Sheet, count, kindAt, rangeAt}
-use Rattle.cursor.specs.Rule.{World, done, bind, _>>=_}
-use Rattle.cursor.specs.Tokens.{pastFrom, pastTrivia, startOf, eatTrivia, eatEol}
+use Rattle.cursor.specs.Sheet.{Sheet, count, kindAt}
+use Rattle.cursor.specs.Rule.{World, done}
 use Rattle.cursor.specs.Records.{write, noKids, flagged}
 use Rattle.cursor.specs.Tree.{none, meaning}
 use Rattle.cursor.proofs.Ends.{at-done}
@@ -28,14 +25,15 @@ use Rattle.cursor.proofs.Once.{uses, built-once}
 use Rattle.cursor.proofs.Grows.{begin}
 use Rattle.types.specs.Items.{start}
 use Rattle.exprs.specs.Body.{body}
-use Rattle.exprs.specs.Levels.{knot, levels, programRecord, program}
-use Rattle.grammar.specs.Places.{tokensOf, Place, before, opening}
+use Rattle.exprs.specs.Levels.{levels, programRecord, program}
+use Rattle.grammar.specs.Places.{Place, opening}
 use Rattle.grammar.specs.Symbols.{Body}
 use Rattle.grammar.specs.Derives.{Derives}
 use Rattle.grammar.specs.Builders.{blank}
 use Rattle.grammar.specs.Shape.{shape}
 use Rattle.grammar.specs.Follows.{Follows, programOver, treeOf}
-use Rattle.grammar.proofs.Links.{view-settle, calm-settle, placeAt}
+use Rattle.grammar.proofs.Links.{calm-settle, placeAt}
+use Rattle.grammar.proofs.Outset.{outset, settled-at, program-is, first-place}
 use Rattle.grammar.proofs.WholeSheet.{whole-sheet}
 use Rattle.grammar.proofs.Sound.{Spot, at, Seq, _▸_, Sound, reads, binds}
 use Rattle.grammar.proofs.SoundSteps.{Appended, appended, append-sound}
@@ -43,10 +41,6 @@ use Rattle.grammar.proofs.SoundValues.{wrapped, relabel}
 use Rattle.grammar.proofs.SoundItems.{listed, word-flags}
 use Rattle.grammar.proofs.SoundNames.{Rowing}
 use Rattle.grammar.proofs.SoundKnot.{knot-sound}
-
--- where a reading begins: before the first token, with nothing read, built or logged
-abbrev pub outset : State
-outset = record { at = 0; prev = 0; reads = 0; nodes = 0; errors = 0; wanted = 0; live = 0 }
 
 -- the program's record
 abbrev programLabel : ℕ → Place → ℕ → Label
@@ -70,42 +64,7 @@ pub record SheetRead (e : Sheet) (ys : List ℕ) (m : ℕ) : Type 0 where
   pub tree-is : meaning ys root ≡ treeOf follows
   pub once : (i : ℕ) → i < m → uses ys root i ≡ 1
 
--- at no trivia there is none to pass
-calm-past : (ws : List ℕ) (i : ℕ) → isTrivia (kindAt ws i) ≡ false → pastTrivia ws i ≡ i
-unfolding pastTrivia pastFrom
-calm-past ws i h = go (count ws - i)
-  where
-    go : (n : ℕ) → pastFrom ws n i ≡ i
-    go zero = refl
-    go (suc n) = rw (h, pastFrom) refl
-
--- a sheet starts where its first token does
-opening-is : (ws : List ℕ) → startOf (rangeAt ws 0) ≡ opening ws
-unfolding opening tokensOf rangeAt count
-opening-is [] = refl
-opening-is (k ∷ []) = refl
-opening-is (k ∷ a ∷ []) = refl
-opening-is (k ∷ a ∷ b ∷ ws) = rw (lt-ltb 0 (length (k ∷ a ∷ b ∷ ws) / 3) (omega arith), rangeAt) refl
-
 module _ (e : Sheet) where
-  -- past the trivia that a sheet opens with
-  abbrev settled-at : State → State
-  settled-at s = record { at = pastTrivia (e .tokens) (s .at); prev = s .prev; reads = s .reads; nodes = s .nodes; errors = s .errors; wanted = s .wanted; live = s .live }
-
-  -- statements begin with passing trivia, so it is no matter that some were passed before
-  body-settles : (d end : ℕ) (s : State) (w : World) → body (levels e d) end s w ≡ body (levels e d) end (settled-at s) w
-  unfolding body eatEol eatTrivia
-  body-settles d end s w = rw (calm-past (e .tokens) (pastTrivia (e .tokens) (s .at)) (calm-settle (e .tokens) (s .at))) refl
-
-  settles : (d end : ℕ) (s : State) (w : World) → levels e d .body end s w ≡ levels e d .body end (settled-at s) w
-  unfolding knot
-  settles zero end s w = refl
-  settles (suc d) end s w = body-settles d end s w
-
-  program-is : (d : ℕ) (w : World) → program (levels e d) outset w ≡ (levels e d .body kind.Eof >>= (λ row. programRecord (opening (e .tokens)) row)) (settled-at outset) w
-  unfolding program start
-  program-is d w = (λ i. bind (settles d kind.Eof outset w i) (λ s1 w1 row. programRecord (opening-is (e .tokens) i) row s1 w1))
-
   sealed-sound : (from : ℕ) (row : Kids) → Sound e (Sealed from row) (programRecord from row)
   unfolding programRecord
   sealed-sound from row = record { ends = λ s w h. reads e (append-sound e _ (row .first)) h (λ v a c. go c) }
@@ -121,15 +80,11 @@ module _ (e : Sheet) where
       let o = room st in
       record { der = d; root = t .root; is = t .is; tree-is = built-meaning (t .tree-of) (omega (arith, o)); once = λ i h. built-once (t .tree-of) (omega (arith, o)) i (omega arith) h }
 
-  first-place : placeAt (e .tokens) (settled-at outset) ≡ before (e .tokens)
-  unfolding before
-  first-place = λ i. record { prev = 0; rest = view-settle (e .tokens) 0 i }
-
   pub program-sound : length (e .tokens) < 2 ^ 32 → ((i : ℕ) → i < count (e .tokens) → kindAt (e .tokens) i ≡ kind.Eof → ⊥) → (d : ℕ) (s1 : State) (w w1 : World) (link : ℕ) → program (levels e d) outset w ≡ done s1 w1 link → s1 .errors ≡ 0
       → (zs : List ℕ) → Agree (w1 .nodes) zs 0 (s1 .nodes) (nodeWords * s1 .nodes) → length zs ≡ length (w1 .nodes) → SheetRead e zs (s1 .nodes)
   unfolding treeOf
   program-sound few none-is d s1 w w1 link q clean zs same long =
       let sound = binds e (knot-sound e few d .bodies kind.Eof) (λ row. sealed-sound (opening (e .tokens)) row) in
-      let fact = at-done (sound .ends (settled-at outset) w (record { settled = calm-settle (e .tokens) 0 })) (sym (program-is d w) ∙ q) .fact clean in
-      let read = subst (λ z. SheetOn e z (placeAt (e .tokens) s1) zs (s1 .nodes)) first-place (sheet-read same long fact) in
+      let fact = at-done (sound .ends (settled-at e outset) w (record { settled = calm-settle (e .tokens) 0 })) (sym (program-is e d w) ∙ q) .fact clean in
+      let read = subst (λ z. SheetOn e z (placeAt (e .tokens) s1) zs (s1 .nodes)) (first-place e) (sheet-read same long fact) in
       record { follows = record { end = placeAt (e .tokens) s1; body = read .der; whole = whole-sheet (e .tokens) none-is (read .der) }; root = read .root; is = read .is; tree-is = read .tree-is; once = read .once }

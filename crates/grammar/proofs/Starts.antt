@@ -342,7 +342,7 @@ widened : {p : Place} → Opens atoms p → Opens exprs p
 widened {p} o = record { first = longer (kindOf p) exprHeads atoms (o .first); paren = o .paren }
 
 -- a token that is a literal is of a literal's kind
-literal-first : (text : List ℕ) (k : ℕ) (r : Span) (l : Label) → literal text k r ≡ literals.Value l → among k lits ≡ true
+pub literal-first : (text : List ℕ) (k : ℕ) (r : Span) (l : Label) → literal text k r ≡ literals.Value l → among k lits ≡ true
 unfolding literal among
 literal-first text k r l e =
     step (eqb k kind.Int) _ _ _ (step (eqb k kind.Float) _ _ _ (step (eqb k kind.Str) _ _ _ (step (eqb k kind.RawStr) _ _ _ (step (eqb k kind.ByteStr) _ _ _ (step (eqb k kind.Null) _ _ _ (step (eqb k kind.True) _ _ _ (step (eqb k kind.False) _ _ _ never))))))) e

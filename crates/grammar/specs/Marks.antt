@@ -1,4 +1,4 @@
--- How often each token of a sheet is read, off the grammar alone: docs/01-scope.md, demand 3. A token's mark says how often its reading is
+-- How often each token of a sheet is read, off the grammar alone: the document, demand 3. A token's mark says how often its reading is
 -- doubled: once for every group in parentheses around it, brackets included, that stands first, Eols and trivia aside, behind a `{` which
 -- opens an expression where the whole is a block; once more where it is itself a literal that stands so; and once more where it is the `fn`
 -- of a function without a name that opens a statement.
