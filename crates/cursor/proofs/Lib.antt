@@ -5,6 +5,7 @@ pub mod RecordPaths
 pub mod TokenPaths
 pub mod Finished
 pub mod Writes
+pub mod Held
 pub mod Laws
 pub mod Meaning
 pub mod Once

@@ -12,6 +12,7 @@ use borrow.Author.Tests.{eq-eqb, ne-eqb, lt-ltb, le-ltb, eqb-true, eqb-false, lt
 use Rattle.kinds.specs.Number as kind
 use Rattle.kinds.specs.Kinds.{isTrivia}
 use Rattle.cursor.specs.declared.State.{State}
+use Rattle.cursor.specs.declared.Span.{Span}
 use Rattle.cursor.specs.declared.Ranged.the-variants as ranged
 use Rattle.cursor.specs.Sheet.{Sheet, count, kindAt, rangeAt}
 use Rattle.cursor.specs.Rule.{World, Stop, done, failed, refused, more, stop, iterate}
@@ -43,6 +44,21 @@ there ts i p = by (decLt i (length ts / 3))
     by (yes q) = q
     by (no q) = absurd (p (kind-out ts i (omega arith)))
 
+-- a token that has a range is there, and where none has one the tokens are at their end
+pub range-there : (ts : List ℕ) (i : ℕ) {r : Span} → rangeAt ts i ≡ ranged.At r → i < length ts / 3
+range-there ts i {r} p = by (decLt i (length ts / 3))
+  where
+    by : Dec (i < length ts / 3) → i < length ts / 3
+    by (yes q) = q
+    by (no q) = let o = range-out ts i (omega arith) in let z : _≡_ {A = ℕ} 0 1 = cc in omega arith
+
+pub range-gone : (ts : List ℕ) (i : ℕ) → rangeAt ts i ≡ ranged.Nowhere → length ts / 3 ≤ i
+range-gone ts i p = by (decLt i (length ts / 3))
+  where
+    by : Dec (i < length ts / 3) → length ts / 3 ≤ i
+    by (yes q) = let o = range-in ts i q in let z : _≡_ {A = ℕ} 0 1 = cc in omega arith
+    by (no q) = omega arith
+
 module _ (ts : List ℕ) where
   past-from-off : (k i : ℕ) → isTrivia (kindAt ts i) ≡ false → pastFrom ts k i ≡ i
   unfolding pastFrom
@@ -70,17 +86,18 @@ module _ (ts : List ℕ) where
       rw e (past-from-on _ i p)
 
 module _ (e : Sheet) (s : State) (w : World) where
-  pub bump-end : length (e .tokens) / 3 ≤ s .at → bump e s w ≡ done (record { at = s .at; prev = s .prev; reads = s .reads; nodes = s .nodes; errors = s .errors; wanted = s .wanted; live = 0 }) w tt
+  pub bump-end : rangeAt (e .tokens) (s .at) ≡ ranged.Nowhere → bump e s w ≡ done (record { at = s .at; prev = s .prev; reads = s .reads; nodes = s .nodes; errors = s .errors; wanted = s .wanted; live = 0 }) w tt
   unfolding bump count
-  bump-end p = rw (le-ltb _ _ p, bump)
+  bump-end p = rw (le-ltb _ _ (range-gone _ _ p), bump)
 
-  pub bump-spent : s .at < length (e .tokens) / 3 → e .limits .allowance ≤ s .reads → bump e s w ≡ failed (refused 10)
-  unfolding bump count
-  bump-spent p q = rw (lt-ltb _ _ p, bump) (rw (le-ltb _ _ q))
+  module _ {r : Span} (p : rangeAt (e .tokens) (s .at) ≡ ranged.At r) where
+    pub bump-spent : e .limits .allowance ≤ s .reads → bump e s w ≡ failed (refused 10)
+    unfolding bump count
+    bump-spent q = rw (lt-ltb _ _ (range-there _ _ p), bump) (rw (le-ltb _ _ q))
 
-  pub bump-on : {i : ℕ} → s .at < length (e .tokens) / 3 → s .reads < e .limits .allowance → i ≡ pastTrivia (e .tokens) (s .at + 1) → bump e s w ≡ done (record { at = i; prev = getD (e .tokens) (s .at * 3 + 2) 0; reads = s .reads + 1; nodes = s .nodes; errors = s .errors; wanted = s .wanted; live = 0 }) w tt
-  unfolding bump count
-  bump-on p q r = rw (lt-ltb _ _ p, bump) (rw (lt-ltb _ _ q, range-in _ _ p, r))
+    pub bump-on : {i : ℕ} → s .reads < e .limits .allowance → i ≡ pastTrivia (e .tokens) (s .at + 1) → bump e s w ≡ done (record { at = i; prev = r .end; reads = s .reads + 1; nodes = s .nodes; errors = s .errors; wanted = s .wanted; live = 0 }) w tt
+    unfolding bump count
+    bump-on q n = rw (lt-ltb _ _ (range-there _ _ p), bump) (rw (lt-ltb _ _ q, p, n))
 
   pub eat-trivia-on : {i : ℕ} → i ≡ pastTrivia (e .tokens) (s .at) → eatTrivia e s w ≡ done (record { at = i; prev = s .prev; reads = s .reads; nodes = s .nodes; errors = s .errors; wanted = s .wanted; live = s .live }) w tt
   unfolding eatTrivia

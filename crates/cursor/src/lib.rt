@@ -3,6 +3,7 @@
 
 pub mod checks;
 pub mod nodes;
+pub mod reader;
 pub mod records;
 pub mod tokens;
 

@@ -1,4 +1,4 @@
-// Where the reading stands in the token list.
+// Where the reading stands in the token list. What stands there is asked of a reader at that place.
 ghost use mathlib.Core.Path.{_≡_};
 ghost use mathlib.Core.List.{List};
 ghost use Prim.Native.Nat.{ℕ};
@@ -13,67 +13,50 @@ use crate::Moved;
 use crate::Ranged;
 use crate::Span;
 use crate::State;
-use crate::TOKEN_WORDS;
+use crate::reader::kind;
+use crate::reader::over;
+use crate::reader::past;
+use crate::reader::range;
 
 // The kind of the current token; Eof at the end.
 pub fn current_kind(tokens: &[u32], s: State) -> u32
     ensures { λ r. ⌜ r ≡ kindAt (now (tokens .entry)) (s .at) ⌝ }
 {
-    kind_at(tokens, s.at)
-}
-
-fn kind_at(tokens: &[u32], at: usize) -> u32
-    ensures { λ r. ⌜ r ≡ kindAt (now (tokens .entry)) at ⌝ }
-{
-    if at < tokens.len() / TOKEN_WORDS {
-        tokens[at * TOKEN_WORDS]
-    } else {
-        kinds::EOF as u32
-    }
+    kind(over(tokens, s.at))
 }
 
 // The range of the current token.
 pub fn current_range(tokens: &[u32], s: State) -> Ranged
     ensures { λ r. ⌜ r ≡ rangeAt (now (tokens .entry)) (s .at) ⌝ }
 {
-    let at = s.at;
-    if at < tokens.len() / TOKEN_WORDS {
-        let here = at * TOKEN_WORDS;
-        let start = tokens[here + 1];
-        let end = tokens[here + 2];
-        Ranged::At(Span { start, end })
-    } else {
-        Ranged::Nowhere
-    }
+    range(over(tokens, s.at))
 }
 
 // The first place from `from` on whose token is no trivia.
 fn past_trivia(tokens: &[u32], from: usize) -> usize
     ensures { λ r. ⌜ r ≡ pastTrivia (now (tokens .entry)) from ⌝ }
 {
-    let mut at = from;
-    while kind_at(tokens, at) < kinds::IDENT as u32 {
-        at += 1;
-    }
-    at
+    past(over(tokens, from)).at
 }
 
 // Moves over the current token and the trivia behind it.
 pub fn bump(tokens: &[u32], limits: Limits, s: State) -> Moved
     ensures { λ r. ⌜ ((x : List ℕ) (w : World) → asMoved r w ≡ bump (sheet x (now (tokens .entry)) limits) s w) ⌝ }
 {
-    let at = s.at;
+    let here = current_range(tokens, s);
+    let end = match here {
+        Ranged::At(span) => span.end,
+        Ranged::Nowhere => {
+            let mut ended = s;
+            ended.live = 0;
+            return Moved::On(ended);
+        }
+    };
     let reads = s.reads;
-    if tokens.len() / TOKEN_WORDS <= at {
-        let mut ended = s;
-        ended.live = 0;
-        return Moved::On(ended);
-    }
     if limits.allowance <= reads {
         return Moved::Failed(Failure::Refused(10));
     }
-    let end = tokens[at * TOKEN_WORDS + 2];
-    let next = past_trivia(tokens, at + 1);
+    let next = past_trivia(tokens, s.at + 1);
     let mut moved = s;
     moved.at = next;
     moved.prev = end;

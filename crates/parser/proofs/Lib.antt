@@ -4,3 +4,5 @@ pub mod ParsePaths
 pub mod Numbers
 pub mod Theorems
 pub mod Unique
+pub mod Demands
+pub mod Promises

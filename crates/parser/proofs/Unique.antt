@@ -17,11 +17,11 @@ one-clear-bytes κs args r s x y p q = p ∙ sym q
 
 pub one-parse : (κs : _) (args : _) (r s : _) (x y : _) → parse.Post κs args r x → parse.Post κs args s y
     → told r (x .1 .1 .1 .0 .now) (x .1 .1 .1 .1 .0 .now) (x .1 .1 .1 .1 .1 .0 .now) ≡ told s (y .1 .1 .1 .0 .now) (y .1 .1 .1 .1 .0 .now) (y .1 .1 .1 .1 .1 .0 .now)
-one-parse κs args r s x y p q = p ∙ sym q
+one-parse κs args r s x y p q = p .0 ∙ sym (q .0)
 
 -- and they are one answer
 pub one-answer-of-parse : (κs : _) (args : _) (r s : _) (x y : _) → parse.Post κs args r x → parse.Post κs args s y → r ≡ s
-one-answer-of-parse κs args r s x y p q = one-answer _ (read-has-a-record _ _ _ _ _ _) r s _ _ _ _ _ _ p q
+one-answer-of-parse κs args r s x y p q = one-answer _ (read-has-a-record _ _ _ _ _ _) r s _ _ _ _ _ _ (p .0) (q .0)
 
 pub one-lucia-parse : (κs : _) (args : _) (r s : _) (x y : _) → lucia-parse.Post κs args r x → lucia-parse.Post κs args s y
     → handed r (x .1 .1 .1 .1 .1 .1 .0 .now) (x .1 .1 .1 .0 .now) (x .1 .1 .1 .1 .0 .now) (x .1 .1 .1 .1 .1 .0 .now) ≡ handed s (y .1 .1 .1 .1 .1 .1 .0 .now) (y .1 .1 .1 .0 .now) (y .1 .1 .1 .1 .0 .now) (y .1 .1 .1 .1 .1 .0 .now)

@@ -2,3 +2,4 @@ pub mod Blank
 pub mod Outcome
 pub mod Finish
 pub mod Parse
+pub mod Demands

@@ -6,7 +6,7 @@ use Rattle.parser.proofs.lucia_parse.Tie as tie
 use borrow.Author.Needs.{needs}
 
 returns : tie.Need-returns
-returns c = let c₁ = c .before .before .before .before .before .before .before in let c₂ = c₁ .before .before .before .before .before .before .before .before .before in ap (handing (c₂ .args .counts .now)) (c .number-of .ensures _ _ _ ∙ c₁ .parse .ensures)
+returns c = let c₁ = c .before .before .before .before .before .before .before in let c₂ = c₁ .before .before .before .before .before .before .before .before .before in ap (handing (c₂ .args .counts .now)) (c .number-of .ensures _ _ _ ∙ c₁ .parse .ensures .0)
 
 pub lucia-parse-spec : {M : Type 1} → statement M
 lucia-parse-spec =

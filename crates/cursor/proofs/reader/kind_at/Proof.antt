@@ -1,7 +1,7 @@
 use Rattle.cursor.proofs.TokenPaths as paths
 use mathlib.Core.Path.{sym}
-use Rattle.cursor.proofs.tokens.kind_at.Statement.{statement}
-use Rattle.cursor.proofs.tokens.kind_at.Tie as tie
+use Rattle.cursor.proofs.reader.kind_at.Statement.{statement}
+use Rattle.cursor.proofs.reader.kind_at.Tie as tie
 use borrow.Author.Needs.{needs}
 
 returns : tie.Need-returns
