@@ -64,7 +64,8 @@ use Rattle.grammar.specs.Words as word
 use Rattle.grammar.specs.Marks.{again, marksAt, marks, readings}
 use Rattle.grammar.proofs.Tests.{takes, other, free}
 use Rattle.grammar.proofs.Starts.{stmts, apart, starts}
-use Rattle.grammar.proofs.Uses.{records, need}
+use Rattle.grammar.specs.Records.{records}
+use Rattle.grammar.specs.Depth.{need}
 
 -- a record: its kind, start and end, two words and flags
 abbrev says : ℕ → ℕ → ℕ → ℕ → ℕ → ℕ → Label

@@ -15,7 +15,8 @@ use Rattle.grammar.specs.Derives as by
 use Rattle.grammar.specs.Words.{among}
 use Rattle.grammar.proofs.Starts.{lits, starts, apart}
 use Rattle.grammar.proofs.Cost.{takenIn, taken, Costs, costs, cost, lead}
-use Rattle.grammar.proofs.Uses.{records, need}
+use Rattle.grammar.specs.Records.{records}
+use Rattle.grammar.specs.Depth.{need}
 use Rattle.grammar.proofs.MeetsValues.{elsewhere}
 
 pub at-token : {k : ℕ} {p q : Place} → Tok k p q → Here k p

@@ -56,7 +56,6 @@ pub mod UnambiguousTables
 pub mod UnambiguousSymbols
 pub mod Unambiguous
 pub mod Cost
-pub mod Uses
 pub mod Meets
 pub mod MeetsSteps
 pub mod MeetsValues

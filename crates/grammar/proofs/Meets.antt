@@ -22,7 +22,8 @@ use Rattle.grammar.specs.Places.{Place}
 use Rattle.grammar.specs.Symbols.{Sym}
 use Rattle.grammar.specs.Derives.{Derives}
 use Rattle.grammar.proofs.Cost.{cost}
-use Rattle.grammar.proofs.Uses.{records, entered, need}
+use Rattle.grammar.specs.Records.{records}
+use Rattle.grammar.specs.Depth.{entered, need}
 use Rattle.grammar.proofs.Links.{placeAt, Settled}
 
 -- what a rule takes: readings, node records, and levels of depth
@@ -83,6 +84,7 @@ module _ (e : Sheet) where
     pub place : placeAt (e .tokens) s1 ≡ q
     pub errors : s1 .errors ≡ s .errors
     pub reads : s1 .reads ≡ s .reads + c .reads
+    pub paid : s1 .reads ≤ max (s .reads) (e .limits .allowance)
     pub nodes : s1 .nodes ≡ s .nodes + c .nodes
     pub long : length (w1 .nodes) ≡ length (w .nodes)
 
@@ -106,7 +108,7 @@ module _ (e : Sheet) where
 
   -- a fault, after the readings of a cost; it may have come to need as many records
   pub data FailsAt {A : Type 0} (d : ℕ) (c : Cost) (s : State) (w : World) : Out A → Type 0 where
-    faulty : {s1 : State} {w1 : World} {f : Fault} → s1 .reads ≡ s .reads + c .reads → length (w1 .nodes) ≡ length (w .nodes) → FailsAt d c s w (failed (fault s1 w1 f))
+    faulty : {s1 : State} {w1 : World} {f : Fault} → s1 .reads ≡ s .reads + c .reads → s1 .reads ≤ max (s .reads) (e .limits .allowance) → length (w1 .nodes) ≡ length (w .nodes) → FailsAt d c s w (failed (fault s1 w1 f))
     lacking : {n : ℕ} → Lacks d c s w n → FailsAt d c s w (failed (refused n))
 
   pub record Fails {A : Type 0} (d : ℕ) (p : Place) (c : Cost) (r : Rule A) : Type 0 where
@@ -132,13 +134,13 @@ module _ {e : Sheet} {d : ℕ} where
 -- nothing was taken
 pub remains : {e : Sheet} {p : Place} {s s1 : State} {w w1 : World} → Settled (e .tokens) s1 → placeAt (e .tokens) s1 ≡ p → s1 .errors ≡ s .errors → s1 .reads ≡ s .reads → s1 .nodes ≡ s .nodes → length (w1 .nodes) ≡ length (w .nodes)
     → Arrived e p nothing s w s1 w1
-remains h z f g i l = record { calm = h; place = z; errors = f; reads = omega (arith, g); nodes = omega (arith, i); long = l }
+remains h z f g i l = record { calm = h; place = z; errors = f; reads = omega (arith, g); paid = omega (arith, g); nodes = omega (arith, i); long = l }
 
 pub stays : {e : Sheet} {p : Place} {s : State} {w : World} → Settled (e .tokens) s → placeAt (e .tokens) s ≡ p → Arrived e p nothing s w s w
 stays h z = remains h z refl refl refl refl
 
 arrived-trans : {e : Sheet} {a b : Cost} {q v : Place} {s s1 s2 : State} {w w1 w2 : World} → Arrived e q a s w s1 w1 → Arrived e v b s1 w1 s2 w2 → Arrived e v (a ⊕ b) s w s2 w2
-arrived-trans x y = record { calm = y .calm; place = y .place; errors = y .errors ∙ x .errors; reads = omega (arith, x .reads, y .reads); nodes = omega (arith, x .nodes, y .nodes); long = y .long ∙ x .long }
+arrived-trans x y = record { calm = y .calm; place = y .place; errors = y .errors ∙ x .errors; reads = omega (arith, x .reads, y .reads); paid = omega (arith, x .paid, y .paid); nodes = omega (arith, x .nodes, y .nodes); long = y .long ∙ x .long }
 
 module _ {e : Sheet} {A : Type 0} {d : ℕ} {p : Place} where
   -- nothing happens; P holds of the answer
@@ -173,7 +175,7 @@ module _ {e : Sheet} {A : Type 0} {d : ℕ} {p q : Place} {P : A → Type 0} {r 
   fits {a} {b} f g h x = record { runs = λ s w i z. go s w (x .runs s w i z) }
     where
       go : (s : State) (w : World) {o : Out A} → EndsAt e d a q P s w o → EndsAt e d b q P s w o
-      go s w (arrives y i) = arrives (record { calm = y .calm; place = y .place; errors = y .errors; reads = omega (arith, y .reads); nodes = omega (arith, y .nodes); long = y .long }) i
+      go s w (arrives y i) = arrives (record { calm = y .calm; place = y .place; errors = y .errors; reads = omega (arith, y .reads); paid = y .paid; nodes = omega (arith, y .nodes); long = y .long }) i
       go s w (short l) = short (lacks (omega arith) (omega arith) h refl l)
 
   -- with one level more
@@ -181,7 +183,7 @@ module _ {e : Sheet} {A : Type 0} {d : ℕ} {p q : Place} {P : A → Type 0} {r 
   deeper {c} x = record { runs = λ s w i z. go s w (x .runs s w i z) }
     where
       go : (s : State) (w : World) {o : Out A} → EndsAt e d c q P s w o → EndsAt e (suc d) (inside c) q P s w o
-      go s w (arrives y i) = arrives (record { calm = y .calm; place = y .place; errors = y .errors; reads = y .reads; nodes = y .nodes; long = y .long }) i
+      go s w (arrives y i) = arrives (record { calm = y .calm; place = y .place; errors = y .errors; reads = y .reads; paid = y .paid; nodes = y .nodes; long = y .long }) i
       go s w (short (few-nodes l)) = short (few-nodes l)
       go s w (short (few-levels l)) = short (few-levels (omega arith))
       go s w (short (few-reads l)) = short (few-reads l)
@@ -258,7 +260,7 @@ module _ {e : Sheet} {A B : Type 0} {d : ℕ} {p : Place} {a : Cost} where
   fails-first k x = record { fails = λ s w h z. go (x .fails s w h z) }
     where
       go : {s : State} {w : World} {o : Out A} → FailsAt e d a s w o → FailsAt e d a s w (bind o (λ s1 w1 y. k y s1 w1))
-      go (faulty f g) = faulty f g
+      go (faulty f k g) = faulty f k g
       go (lacking l) = lacking l
 
   -- or where what follows does
@@ -266,7 +268,7 @@ module _ {e : Sheet} {A B : Type 0} {d : ℕ} {p : Place} {a : Cost} where
   fails-later {q} {b} {P} {k = k} first then = record { fails = λ s w h z. go (first .runs s w h z) }
     where
       on : {s s1 : State} {w w1 : World} {o : Out B} → Arrived e q a s w s1 w1 → FailsAt e d b s1 w1 o → FailsAt e d (a ⊕ b) s w o
-      on y (faulty {s1 = s2} {w1 = w2} {f = x} f g) = faulty {s1 = s2} {w1 = w2} {f = x} (omega (arith, y .reads, f)) (g ∙ y .long)
+      on y (faulty {s1 = s2} {w1 = w2} {f = x} f k g) = faulty {s1 = s2} {w1 = w2} {f = x} (omega (arith, y .reads, f)) (omega (arith, y .paid, k)) (g ∙ y .long)
       on y (lacking l) = lacking (lacks-later y l)
 
       go : {s : State} {w : World} {o : Out A} → EndsAt e d a q P s w o → FailsAt e d (a ⊕ b) s w (bind o (λ s1 w1 y. k y s1 w1))
@@ -278,7 +280,7 @@ module _ {e : Sheet} {A : Type 0} {d : ℕ} {p : Place} {a b : Cost} where
   fails-fit f g h x = record { fails = λ s w i z. go s w (x .fails s w i z) }
     where
       go : (s : State) (w : World) {o : Out A} → FailsAt e d a s w o → FailsAt e d b s w o
-      go s w (faulty {s1 = s1} {w1 = w1} {f = x} i j) = faulty {s1 = s1} {w1 = w1} {f = x} (omega (arith, i)) j
+      go s w (faulty {s1 = s1} {w1 = w1} {f = x} i k j) = faulty {s1 = s1} {w1 = w1} {f = x} (omega (arith, i)) k j
       go s w (lacking l) = lacking (lacks (omega arith) (omega arith) h refl l)
 
 -- an attempt that fails is undone, and the other rule goes on from where it began; it needs room for no fewer records
@@ -287,10 +289,10 @@ module _ {e : Sheet} {A B : Type 0} {d : ℕ} {p v : Place} {a b : Cost} {Q : B 
   unfolding attempt rewind
   retried first l other = record { runs = λ s w h z. go s w h z (first .fails s w h z) }
     where
-      on : (s s1 : State) (w w1 : World) {o : Out B} → s1 .reads ≡ s .reads + a .reads → length (w1 .nodes) ≡ length (w .nodes) → EndsAt e d b v Q (rewind s s1) w1 o → EndsAt e d (undone a b) v Q s w o
-      on s s1 w w1 f g (arrives y h) = arrives (record { calm = y .calm; place = y .place; errors = y .errors; reads = omega (arith, f, y .reads); nodes = y .nodes; long = y .long ∙ g }) h
-      on s s1 w w1 f g (short x) = short (lacks (omega (arith, f)) (omega arith) (omega arith) g x)
+      on : (s s1 : State) (w w1 : World) {o : Out B} → s1 .reads ≡ s .reads + a .reads → s1 .reads ≤ max (s .reads) (e .limits .allowance) → length (w1 .nodes) ≡ length (w .nodes) → EndsAt e d b v Q (rewind s s1) w1 o → EndsAt e d (undone a b) v Q s w o
+      on s s1 w w1 f k g (arrives y h) = arrives (record { calm = y .calm; place = y .place; errors = y .errors; reads = omega (arith, f, y .reads); paid = omega (arith, k, y .paid); nodes = y .nodes; long = y .long ∙ g }) h
+      on s s1 w w1 f k g (short x) = short (lacks (omega (arith, f)) (omega arith) (omega arith) g x)
 
       go : (s : State) (w : World) → Settled (e .tokens) s → placeAt (e .tokens) s ≡ p → {o : Out A} → FailsAt e d a s w o → EndsAt e d (undone a b) v Q s w (orElse o (λ s1 w1 x. k x s1 w1) (λ s1 w1 f. back (rewind s s1) w1))
-      go s w h z (faulty {s1 = s1} {w1 = w1} f g) = on s s1 w w1 f g (other .runs (rewind s s1) w1 (record { settled = h .settled }) z)
+      go s w h z (faulty {s1 = s1} {w1 = w1} f k g) = on s s1 w w1 f k g (other .runs (rewind s s1) w1 (record { settled = h .settled }) z)
       go s w h z (lacking x) = short (lacks (omega arith) (omega arith) (omega arith) refl x)

@@ -29,7 +29,8 @@ use Rattle.grammar.specs.Derives.{Derives, Compound, adding, subtracting
 use Rattle.grammar.proofs.SoundExprs.{formOf}
 use Rattle.grammar.proofs.FewLefts.{lefts-few, view-short}
 use Rattle.grammar.proofs.Cost.{taken, costs, cost}
-use Rattle.grammar.proofs.Uses.{records, need}
+use Rattle.grammar.specs.Records.{records}
+use Rattle.grammar.specs.Depth.{need}
 use Rattle.grammar.proofs.Leading.{at-token}
 use Rattle.grammar.proofs.Meets.{Cost, _⊕_, nothing, inside, costOf, Any, Goes, goes, stops, Meets, gives, answers, answers-stop, yes-so, not-so, fits, maps, next, turn-more, turn-stop}
 use Rattle.grammar.proofs.MeetsSteps.{position, after-none, before-none, add-meets, bumps, expects, here, not-here, ranges, ranges-not, picks, picks-none}

@@ -52,7 +52,8 @@ use Rattle.grammar.specs.Words.{among}
 use Rattle.grammar.proofs.Starts.{starts, apart}
 use Rattle.grammar.proofs.SoundExprs.{formOf}
 use Rattle.grammar.proofs.Cost.{costs}
-use Rattle.grammar.proofs.Uses.{records, need}
+use Rattle.grammar.specs.Records.{records}
+use Rattle.grammar.specs.Depth.{need}
 use Rattle.grammar.proofs.Meets.{Cost, _⊕_, building, costOf, Any, Meets, gives, answers, answers-more, answers-stop, fits, next, turn-more, turn-stop}
 use Rattle.grammar.proofs.MeetsSteps.{position, before-none, bumps, expects, lines, here, not-here, eats, eats-not, picks, picks-none, adds}
 use Rattle.grammar.proofs.MeetsValues.{elsewhere, unlike, lit-free, close-meets, begins, ident-meets, lit-meets}

@@ -21,7 +21,8 @@ use Rattle.grammar.specs.Words.{among}
 use Rattle.grammar.proofs.Starts.{Opens, starts, apart}
 use Rattle.grammar.proofs.SoundExprs.{formOf}
 use Rattle.grammar.proofs.Cost.{costs}
-use Rattle.grammar.proofs.Uses.{records, need}
+use Rattle.grammar.specs.Records.{records}
+use Rattle.grammar.specs.Depth.{need}
 use Rattle.grammar.proofs.Meets.{_⊕_, inside, costOf, Any, Meets, answers, fits, any, next}
 use Rattle.grammar.proofs.MeetsSteps.{before-none, expects, adds, add-meets}
 use Rattle.grammar.proofs.MeetsValues.{begins}

@@ -20,7 +20,8 @@ use Rattle.grammar.specs.Derives.{Derives, body-of, no-stmt, last-stmt, 
 use Rattle.grammar.specs.Words.{among}
 use Rattle.grammar.proofs.Starts.{stmts, starts, apart}
 use Rattle.grammar.proofs.Cost.{taken, costs}
-use Rattle.grammar.proofs.Uses.{records, need}
+use Rattle.grammar.specs.Records.{records}
+use Rattle.grammar.specs.Depth.{need}
 use Rattle.grammar.proofs.Leading.{at-token}
 use Rattle.grammar.proofs.Meets.{reading, costOf, Any, Meets, answers, answers-more, answers-stop, fits, next, kept-recover, turn-more, turn-stop}
 use Rattle.grammar.proofs.MeetsSteps.{expect-meets, lines, not-here, eats, eats-not}

@@ -17,7 +17,8 @@ use Rattle.grammar.specs.Places.{Place, Tok, Here, Not}
 use Rattle.grammar.specs.Symbols.{Sym, Eols, Until, Items}
 use Rattle.grammar.specs.Derives.{Derives, until-of, items-end, items-last, items-final, items-comma}
 use Rattle.grammar.proofs.Cost.{taken, costs, cost}
-use Rattle.grammar.proofs.Uses.{records, need}
+use Rattle.grammar.specs.Records.{records}
+use Rattle.grammar.specs.Depth.{need}
 use Rattle.grammar.proofs.Meets.{_⊕_, reading, costOf, itemCost, Any, Goes, Stops, Meets, Reads, answers, answers-more, answers-stop, yes-so, fits, next, turn-more, turn-stop}
 use Rattle.grammar.proofs.MeetsSteps.{before-none, eat-yes, eols-meet, expects, lines, here, not-here, eats, eats-not, adds}
 use Rattle.grammar.proofs.MeetsValues.{elsewhere}

@@ -22,7 +22,8 @@ use Rattle.grammar.specs.Symbols.{Until, Items, NoLast, Effect, Path, Im
 use Rattle.grammar.specs.Derives.{Derives, until-of, items-end, items-last, items-final, items-comma, effect-of, path-more, path-alone, path-as, path-items, path-all, item-alone, item-as}
 use Rattle.grammar.proofs.Starts.{starts}
 use Rattle.grammar.proofs.Cost.{taken, costs}
-use Rattle.grammar.proofs.Uses.{records, need}
+use Rattle.grammar.specs.Records.{records}
+use Rattle.grammar.specs.Depth.{need}
 use Rattle.grammar.proofs.Meets.{_⊕_, reading, building, costOf, flatCost, Any, Meets, Reads, answers-more, answers-stop, fits, next, turn-more, turn-stop}
 use Rattle.grammar.proofs.MeetsSteps.{before-none, bumps, expects, here, not-here, eats, eats-not, picks, adds}
 use Rattle.grammar.proofs.MeetsValues.{elsewhere, close-meets, begins, adds-some, ident-meets}

@@ -29,7 +29,8 @@ use Rattle.grammar.proofs.Links.{placeAt, Settled, kind-place}
 use Rattle.grammar.proofs.SoundSteps.{range-place}
 use Rattle.grammar.proofs.SoundExprs.{formOf}
 use Rattle.grammar.proofs.Cost.{taken, costs}
-use Rattle.grammar.proofs.Uses.{records, need}
+use Rattle.grammar.specs.Records.{records}
+use Rattle.grammar.specs.Depth.{need}
 use Rattle.grammar.proofs.Meets.{Cost, _⊕_, nothing, reading, building, inside, costOf, Goes, goes, Stops, stops, EndsAt, Meets, gives, yes-so, not-so, fits, next, turn-more, turn-stop}
 use Rattle.grammar.proofs.MeetsSteps.{before-none, bumps}
 use Rattle.grammar.proofs.MeetsValues.{close-meets, begins}

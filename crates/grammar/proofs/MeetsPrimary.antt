@@ -28,7 +28,8 @@ use Rattle.grammar.specs.Words.{among}
 use Rattle.grammar.proofs.Starts.{starts, apart}
 use Rattle.grammar.proofs.SoundExprs.{formOf}
 use Rattle.grammar.proofs.Cost.{costs, cost}
-use Rattle.grammar.proofs.Uses.{records, need}
+use Rattle.grammar.specs.Records.{records}
+use Rattle.grammar.specs.Depth.{need}
 use Rattle.grammar.proofs.Meets.{_⊕_, nothing, building, costOf, Goes, goes, stops, Meets, gives, answers, yes-so, not-so, fits, maps, next, turn-more, turn-stop}
 use Rattle.grammar.proofs.MeetsSteps.{after-none, check-yes, check-not, bumps, expects, eats, eats-not, ranges, ranges-not, picks, picks-none}
 use Rattle.grammar.proofs.MeetsValues.{elsewhere, begins, ident-meets}

@@ -1,8 +1,8 @@
--- A whole sheet that follows the grammar: its rule is done, with no error, and with exactly the readings and records of the derivation; or it is refused, and what was
+-- A whole sheet that follows the grammar: its rule is done, with no error, and with exactly the readings and records of the derivation, which the allowance covers; or it is refused, and what was
 -- too small is told.
 use mathlib.Core.Path.{_≡_, sym, subst}
 use mathlib.Core.List.{List}
-use Prim.Native.Nat.{ℕ, suc, _^_, _<_}
+use Prim.Native.Nat.{ℕ, suc, _^_, _<_, _≤_}
 use native.Mathlib.Omega.{arith}
 use lib.ListN.{length}
 use Rattle.kinds.specs.Number as kind
@@ -16,7 +16,8 @@ use Rattle.grammar.specs.Follows.{Follows}
 use Rattle.grammar.proofs.Links.{calm-settle, placeAt}
 use Rattle.grammar.proofs.Outset.{outset, settled-at, program-is, first-place}
 use Rattle.grammar.proofs.Cost.{cost}
-use Rattle.grammar.proofs.Uses.{records, need}
+use Rattle.grammar.specs.Records.{records}
+use Rattle.grammar.specs.Depth.{need}
 use Rattle.grammar.proofs.Meets.{Cost, building, Any, Lacks, few-nodes, few-levels, few-reads, full, EndsAt, arrives, short, Meets, fits, next}
 use Rattle.grammar.proofs.MeetsSteps.{append-meets}
 use Rattle.grammar.proofs.MeetsKnot.{knot-meets}
@@ -27,7 +28,7 @@ sheetCost f = record { reads = cost (f .body); nodes = suc (records (f .body)); 
 
 -- how the reading of a sheet ends that follows the grammar, with d levels and what the buffers hold
 pub data Finds (e : Sheet) (d : ℕ) (f : Follows (e .text) (e .tokens)) (w : World) : Out ℕ → Type 0 where
-  finds : {s1 : State} {w1 : World} {link : ℕ} → s1 .errors ≡ 0 → s1 .reads ≡ cost (f .body) → s1 .nodes ≡ suc (records (f .body)) → placeAt (e .tokens) s1 ≡ f .end → length (w1 .nodes) ≡ length (w .nodes) → Finds e d f w (done s1 w1 link)
+  finds : {s1 : State} {w1 : World} {link : ℕ} → s1 .errors ≡ 0 → s1 .reads ≡ cost (f .body) → s1 .nodes ≡ suc (records (f .body)) → placeAt (e .tokens) s1 ≡ f .end → length (w1 .nodes) ≡ length (w .nodes) → cost (f .body) ≤ e .limits .allowance → Finds e d f w (done s1 w1 link)
   lacks : {n : ℕ} → Lacks e d (sheetCost f) outset w n → Finds e d f w (failed (refused n))
 
 module _ {e : Sheet} {d : ℕ} where
@@ -45,7 +46,8 @@ program-meets e few d w f = subst (λ o. Finds e d f w o) (sym (program-is e d w
     by (arrives {s1 = s1} y _) =
         let reads : s1 .reads ≡ cost (f .body) = omega (arith, y .reads) in
         let nodes : s1 .nodes ≡ suc (records (f .body)) = omega (arith, y .nodes) in
-        finds (y .errors) reads nodes (y .place) (y .long)
+        let paid : cost (f .body) ≤ e .limits .allowance = omega (arith, y .paid, reads) in
+        finds (y .errors) reads nodes (y .place) (y .long) paid
     by (short (few-nodes l)) = lacks (few-nodes l)
     by (short (few-levels l)) = lacks (few-levels l)
     by (short (few-reads l)) = lacks (few-reads l)

@@ -67,17 +67,17 @@ module _ {e : Sheet} {d : ℕ} where
   unfolding bump count
   bump-at s w h = ends-if (ltb (s .at) (count (e .tokens)))
       (λ q. let l = ltb-true (s .at) (count (e .tokens)) q in let t = taken-here e s h l in ends-if (ltb (s .reads) (e .limits .allowance))
-      (λ _. arrives (record { calm = record { settled = calm-settle (e .tokens) (s .at + 1) }; place = sym (after-place (e .tokens) s h l); errors = refl; reads = omega (arith, t); nodes = omega arith; long = refl }) tt)
+      (λ f. let g = ltb-true (s .reads) (e .limits .allowance) f in arrives (record { calm = record { settled = calm-settle (e .tokens) (s .at + 1) }; place = sym (after-place (e .tokens) s h l); errors = refl; reads = omega (arith, t); paid = omega (arith, g); nodes = omega arith; long = refl }) tt)
       (λ f. let g = ltb-false (s .reads) (e .limits .allowance) f in short (few-reads (omega (arith, t, g)))))
       (λ q. let l = ltb-false (s .at) (count (e .tokens)) q in let f : s .reads ≡ s .reads + taken (placeAt (e .tokens) s) = omega (arith, taken-end e s l) in let g : s .nodes ≡ s .nodes + 0 = omega arith in
-      arrives (record { calm = record { settled = h .settled }; place = sym (after-end e s l); errors = refl; reads = f; nodes = g; long = refl }) tt)
+      arrives (record { calm = record { settled = h .settled }; place = sym (after-end e s l); errors = refl; reads = f; paid = omega arith; nodes = g; long = refl }) tt)
 
   pub bump-meets : {p q : Place} → after p ≡ q → Meets e d p q (reading (taken p)) Any (bump e)
   bump-meets {p} t = record { runs = λ s w h z. subst (λ y. EndsAt e d (reading (taken p)) y Any s w (bump e s w)) t (subst (λ x. EndsAt e d (reading (taken x)) (after x) Any s w (bump e s w)) z (bump-at s w h)) }
 
   pub unexpected-fails : {A : Type 0} {p : Place} → Fails e d p nothing (unexpected {A = A} e)
   unfolding unexpected
-  unexpected-fails = record { fails = λ s w h z. let f : s .reads ≡ s .reads + 0 = omega arith in faulty f refl }
+  unexpected-fails = record { fails = λ s w h z. let f : s .reads ≡ s .reads + 0 = omega arith in faulty f (omega arith) refl }
 
   module _ {p : Place} (k : ℕ) where
     want-meets : Meets e d p p nothing Any (want k)
@@ -141,7 +141,7 @@ module _ {e : Sheet} {d : ℕ} where
   unfolding append
   append-meets l first = record {
     runs = λ s w h z. ends-if (ltb (s .nodes) (roomFor w))
-        (λ _. arrives (record { calm = record { settled = h .settled }; place = z; errors = refl; reads = omega arith; nodes = refl; long = write-length (w .nodes) (s .nodes) l first }) tt)
+        (λ _. arrives (record { calm = record { settled = h .settled }; place = z; errors = refl; reads = omega arith; paid = omega arith; nodes = refl; long = write-length (w .nodes) (s .nodes) l first }) tt)
         (λ q. short (few-nodes (omega (arith, ltb-false (s .nodes) (roomFor w) q))));
   }
 

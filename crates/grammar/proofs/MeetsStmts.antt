@@ -23,7 +23,8 @@ use Rattle.grammar.specs.Words.{among}
 use Rattle.grammar.proofs.Links.{placeAt, Settled}
 use Rattle.grammar.proofs.Starts.{starts}
 use Rattle.grammar.proofs.Cost.{taken, costs, cost}
-use Rattle.grammar.proofs.Uses.{records, need}
+use Rattle.grammar.specs.Records.{records}
+use Rattle.grammar.specs.Depth.{need}
 use Rattle.grammar.proofs.Leading.{at-token, one-taken, Fns, no-fn, a-fn, prec-fns}
 use Rattle.grammar.proofs.Meets.{Cost, _⊕_, nothing, reading, costOf, Any, Meets, FailsAt, Fails, answers, fits, next, kept-attempt, fails-first, fails-later, fails-fit, retried}
 use Rattle.grammar.proofs.MeetsSteps.{unexpected-fails, expect-meets, expect-fails, bumps, expects, here, not-here, picks, picks-none}

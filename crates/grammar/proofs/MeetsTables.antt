@@ -27,7 +27,8 @@ use Rattle.grammar.specs.Words.{among}
 use Rattle.grammar.proofs.Links.{placeAt, Settled, kind-place}
 use Rattle.grammar.proofs.Starts.{lits, literal-first, starts, apart}
 use Rattle.grammar.proofs.Cost.{taken, costs, cost}
-use Rattle.grammar.proofs.Uses.{records, need}
+use Rattle.grammar.specs.Records.{records}
+use Rattle.grammar.specs.Depth.{need}
 use Rattle.grammar.proofs.Leading.{at-token, Leads, no-key, a-group, a-literal, body-leads}
 use Rattle.grammar.proofs.Meets.{Cost, _⊕_, nothing, reading, building, inside, costOf, flatCost, Any, FailsAt, faulty, Fails, Meets, answers, fits, next, kept-attempt, fails-first, fails-later, fails-fit, retried}
 use Rattle.grammar.proofs.MeetsSteps.{unexpected-fails, eat-yes, eat-not, expect-meets, expect-fails, append-meets, bumps, expects, lines, eats, eats-not}
@@ -44,7 +45,7 @@ module _ {e : Sheet} {d : ℕ} {p : Place} where
     where
       by : (s : State) (w : World) → Settled (e .tokens) s → placeAt (e .tokens) s ≡ p → (k : ℕ) → among k lits ≡ false → (r : Span) (l : Literal) → literal (e .text) k r ≡ l → FailsAt e d nothing s w (litFrom e r l s w)
       by s w h z k f r (literals.Value l) g = absurd (true≢false (sym (literal-first (e .text) k r l g) ∙ f))
-      by s w h z k f r (literals.Faulty n) g = let i : s .reads ≡ s .reads + 0 = omega arith in faulty i refl
+      by s w h z k f r (literals.Faulty n) g = let i : s .reads ≡ s .reads + 0 = omega arith in faulty i (omega arith) refl
       by s w h z k f r literals.Nothing g = unexpected-fails .fails s w h z
 
       go : (s : State) (w : World) → Settled (e .tokens) s → placeAt (e .tokens) s ≡ p → among (kindAt (e .tokens) (s .at)) lits ≡ false → (r : Ranged) → FailsAt e d nothing s w (litAt e (kindAt (e .tokens) (s .at)) r s w)

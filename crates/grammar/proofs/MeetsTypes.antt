@@ -18,7 +18,8 @@ use Rattle.grammar.specs.Derives.{Derives, rest-of, one-type, union, no-
 use Rattle.grammar.specs.Words.{among}
 use Rattle.grammar.proofs.Starts.{starts, apart}
 use Rattle.grammar.proofs.Cost.{costs}
-use Rattle.grammar.proofs.Uses.{records, need}
+use Rattle.grammar.specs.Records.{records}
+use Rattle.grammar.specs.Depth.{need}
 use Rattle.grammar.proofs.Meets.{costOf, Any, Meets, Reads, answers, answers-more, answers-stop, refuses, fits, deeper, next, turn-more, turn-stop}
 use Rattle.grammar.proofs.MeetsSteps.{before-none, bumps, expects, here, not-here, eats, eats-not, picks, picks-none, adds}
 use Rattle.grammar.proofs.MeetsValues.{elsewhere, close-meets, pair-meets, begins, adds-some, ident-meets, lit-meets, unlike, lit-free}

@@ -21,7 +21,8 @@ use Rattle.grammar.specs.Words.{among}
 use Rattle.grammar.proofs.Starts.{Opens, atoms, starts}
 use Rattle.grammar.proofs.SoundExprs.{formOf}
 use Rattle.grammar.proofs.Cost.{taken, costs}
-use Rattle.grammar.proofs.Uses.{records, need}
+use Rattle.grammar.specs.Records.{records}
+use Rattle.grammar.specs.Depth.{need}
 use Rattle.grammar.proofs.Meets.{_⊕_, reading, building, costOf, Any, Meets, gives, answers-more, answers-stop, fits, next, turn-more, turn-stop}
 use Rattle.grammar.proofs.MeetsSteps.{after-none, before-none, bumps, expects, here, not-here, picks, picks-none, adds}
 use Rattle.grammar.proofs.MeetsValues.{close-meets, begins, ident-meets}

@@ -25,7 +25,7 @@ use Rattle.grammar.proofs.Links.{placeAt, Settled, kind-place}
 use Rattle.grammar.proofs.SoundSteps.{range-place}
 use Rattle.grammar.proofs.Starts.{lits, starts, apart}
 use Rattle.grammar.proofs.Cost.{taken, costs}
-use Rattle.grammar.proofs.Uses.{records}
+use Rattle.grammar.specs.Records.{records}
 use Rattle.grammar.proofs.Meets.{Cost, _⊕_, nothing, reading, building, flatCost, Any, arrives, Meets, stays, answers, fits, any}
 use Rattle.grammar.proofs.MeetsSteps.{after-none, bumps, expects, adds, append-meets, add-meets}
 

@@ -2,7 +2,6 @@
 -- words are the sheet's, and the readings are the sum over its marks.
 use mathlib.Core.Path.{_≡_, refl, sym, ap, _∙_, subst}
 use mathlib.Core.List.{List, [], _∷_}
-use mathlib.Core.Logic.{_↔_}
 use Prim.Native.Nat.{ℕ, zero, suc, _-_, _*_, _+_, _/_, _^_, _<_, _≤_}
 use native.Mathlib.Omega.{arith}
 use lib.ListN.{length, getD, replicate}
@@ -58,16 +57,12 @@ pub record Faultless {text tokens : List ℕ} (f : Follows text tokens) (o : Out
   pub errors : o .errors ≡ 0
   pub reads : o .reads ≡ readings (marks (f .body))
 
--- demands 2 and 3 as the contract of `parse` has them, of any outcome
-abbrev pub Promised : List ℕ → List ℕ → Outcome → Type 0
-Promised text tokens o = (o .number ≡ 0 → (o .errors ≡ 0) ↔ Follows text tokens) × ((Clean o → (f : Follows text tokens) → treeIn o ≡ treeOf f) × ((Clean o → words (treeIn o) ≡ tokenWords (tokensOf tokens)) × (Clean o → (f : Follows text tokens) → o .reads ≡ readings (marks (f .body)))))
-
 module _ (text tokens : List ℕ) (allowance : ℕ) where
   abbrev pub lent : Sheet
   lent = sheet text tokens (within allowance .limits)
 
   module _ (fit : entryOf text tokens ≡ entries.Fit) where
-    few : length tokens < 2 ^ 32
+    pub few : length tokens < 2 ^ 32
     few = let h = fit-sheet text tokens fit .few in omega (arith, h)
 
     no-end : (i : ℕ) → i < count tokens → kindAt tokens i ≡ kind.Eof → ⊥
@@ -108,7 +103,7 @@ module _ (text tokens : List ℕ) (allowance : ℕ) where
     module _ (f : Follows text tokens) where
       by-reading : (fit : entryOf text tokens ≡ entries.Fit) (n e x : List ℕ) (o : Out ℕ) → Finds lent (within allowance .depth) f (world n e x (replicate liveRoom 0)) o → (finished n e x o .number ≡ 0 → 0 < finished n e x o .nodes) → finished n e x o .number ≡ 0 → Faultless f (finished n e x o)
       unfolding finished
-      by-reading fit n e x (done s w link) (finds a b c d g) has q = record { errors = a; reads = b ∙ cost-marks f }
+      by-reading fit n e x (done s w link) (finds a b c d g h) has q = record { errors = a; reads = b ∙ cost-marks f }
       by-reading fit n e x (failed (refused k)) r has q = let h = has q in absurd (omega (arith, h))
 
       by-check : (c : Entry) → entryOf text tokens ≡ c → (parse text tokens allowance n e x .number ≡ 0 → 0 < parse text tokens allowance n e x .nodes) → parse text tokens allowance n e x .number ≡ 0 → Faultless f (parse text tokens allowance n e x)
@@ -118,13 +113,3 @@ module _ (text tokens : List ℕ) (allowance : ℕ) where
 
       pub followed : parse text tokens allowance n e x .number ≡ 0 → Faultless f (parse text tokens allowance n e x)
       followed = by-check (entryOf text tokens) refl (read-has-a-record text tokens allowance n e x)
-
-    -- the contract of `parse`, from its equation
-    pub demands : {o : Outcome} → o ≡ parse text tokens allowance n e x → (o ≡ parse text tokens allowance n e x) × Promised text tokens o
-    demands q = (
-      q,
-      subst (Promised text tokens) (sym q) (
-        (λ z. ((λ c. clean-sheet (record { read = z; flawless = c }) .follows), (λ f. followed f z .errors))),
-        (clean-tree, (clean-words, (λ c f. followed f (c .read) .reads))),
-      ),
-    )

@@ -5,4 +5,6 @@ pub mod Numbers
 pub mod Theorems
 pub mod Unique
 pub mod Demands
+pub mod Afforded
+pub mod Contract
 pub mod Promises

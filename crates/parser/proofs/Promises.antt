@@ -14,8 +14,9 @@ use Rattle.grammar.proofs.Unambiguous.{one-tree}
 use Rattle.grammar.proofs.SoundProgram.{SheetRead}
 use Rattle.parser.specs.Outcome.{Outcome}
 use Rattle.parser.specs.Parse.{parse}
-use Rattle.parser.specs.Demands.{Clean, treeIn}
-use Rattle.parser.proofs.Demands.{lent, clean-sheet, clean-tree, clean-words, Faultless, followed}
+use Rattle.parser.specs.Demands.{Clean, treeIn, Roomy, Weighed}
+use Rattle.parser.proofs.Demands.{lent, clean-sheet, clean-tree, clean-words, followed}
+use Rattle.parser.proofs.Afforded.{afforded}
 
 module _ (text tokens : List ℕ) (allowance : ℕ) (n e x : List ℕ) where
   -- a text and its tokens, read with this allowance into buffers of these lengths
@@ -51,6 +52,11 @@ module _ (text tokens : List ℕ) (allowance : ℕ) (n e x : List ℕ) where
   -- the readings are the sum of two to the power of each token's mark
   pub readings-summed : (f : Follows text tokens) → outcome .number ≡ 0 → outcome .reads ≡ readings (marks (f .body))
   readings-summed f q = followed text tokens allowance n e x f q .reads
+
+  -- a sheet that follows the grammar, with room for its records and its nesting, is refused for its readings exactly if that sum passes the
+  -- allowance, and answered 0 otherwise
+  pub refused-for-readings : (f : Follows text tokens) → Roomy f n → Weighed allowance (readings (marks (f .body))) (outcome .number)
+  refused-for-readings f r = afforded text tokens allowance f n e x r
 
 -- two derivations of one sheet have one tree
 pub one-tree-alone : {text tokens : List ℕ} (f g : Follows text tokens) → treeOf f ≡ treeOf g

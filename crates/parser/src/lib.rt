@@ -12,7 +12,7 @@ ghost use Rattle.grammar.specs.Places.{tokensOf};
 ghost use Rattle.grammar.specs.Follows.{Follows, treeOf};
 ghost use Rattle.grammar.specs.Words.{tokenWords, words};
 ghost use Rattle.grammar.specs.Marks.{marks, readings};
-ghost use Rattle.parser.specs.Demands.{Clean, treeIn};
+ghost use Rattle.parser.specs.Demands.{Clean, treeIn, Roomy, Weighed};
 ghost use Rattle.parser.specs.Parse.{parse};
 use clear::clear_bytes;
 use clear::clear_words;
@@ -104,7 +104,7 @@ pub fn parse(
     errors: &mut [u32],
     expected: &mut [u8],
 ) -> Answer
-    ensures { λ r. ⌜ (told r (now (nodes .exit)) (now (errors .exit)) (now (expected .exit)) ≡ parse (now (text .entry)) (now (tokens .entry)) allowance (now (nodes .entry)) (now (errors .entry)) (now (expected .entry))) × (((told r (now (nodes .exit)) (now (errors .exit)) (now (expected .exit))) .number ≡ 0 → ((told r (now (nodes .exit)) (now (errors .exit)) (now (expected .exit))) .errors ≡ 0) ↔ Follows (now (text .entry)) (now (tokens .entry))) × ((Clean (told r (now (nodes .exit)) (now (errors .exit)) (now (expected .exit))) → (f : Follows (now (text .entry)) (now (tokens .entry))) → treeIn (told r (now (nodes .exit)) (now (errors .exit)) (now (expected .exit))) ≡ treeOf f) × ((Clean (told r (now (nodes .exit)) (now (errors .exit)) (now (expected .exit))) → words (treeIn (told r (now (nodes .exit)) (now (errors .exit)) (now (expected .exit)))) ≡ tokenWords (tokensOf (now (tokens .entry)))) × (Clean (told r (now (nodes .exit)) (now (errors .exit)) (now (expected .exit))) → (f : Follows (now (text .entry)) (now (tokens .entry))) → (told r (now (nodes .exit)) (now (errors .exit)) (now (expected .exit))) .reads ≡ readings (marks (f .body)))))) ⌝ }
+    ensures { λ r. ⌜ (told r (now (nodes .exit)) (now (errors .exit)) (now (expected .exit)) ≡ parse (now (text .entry)) (now (tokens .entry)) allowance (now (nodes .entry)) (now (errors .entry)) (now (expected .entry))) × (((told r (now (nodes .exit)) (now (errors .exit)) (now (expected .exit))) .number ≡ 0 → ((told r (now (nodes .exit)) (now (errors .exit)) (now (expected .exit))) .errors ≡ 0) ↔ Follows (now (text .entry)) (now (tokens .entry))) × ((Clean (told r (now (nodes .exit)) (now (errors .exit)) (now (expected .exit))) → (f : Follows (now (text .entry)) (now (tokens .entry))) → treeIn (told r (now (nodes .exit)) (now (errors .exit)) (now (expected .exit))) ≡ treeOf f) × ((Clean (told r (now (nodes .exit)) (now (errors .exit)) (now (expected .exit))) → words (treeIn (told r (now (nodes .exit)) (now (errors .exit)) (now (expected .exit)))) ≡ tokenWords (tokensOf (now (tokens .entry)))) × ((Clean (told r (now (nodes .exit)) (now (errors .exit)) (now (expected .exit))) → (f : Follows (now (text .entry)) (now (tokens .entry))) → (told r (now (nodes .exit)) (now (errors .exit)) (now (expected .exit))) .reads ≡ readings (marks (f .body))) × ((f : Follows (now (text .entry)) (now (tokens .entry))) → Roomy f (now (nodes .entry)) → Weighed allowance (readings (marks (f .body))) ((told r (now (nodes .exit)) (now (errors .exit)) (now (expected .exit))) .number)))))) ⌝ }
 {
     let fit = entry_check(text, tokens);
     match fit {

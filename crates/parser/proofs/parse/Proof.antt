@@ -1,6 +1,6 @@
 -- `parse` meets its contract: the entry check decides, and the program's rule is blind to what the buffers held.
 use Rattle.parser.proofs.ParsePaths.{unfit-on, read-on, refused-on}
-use Rattle.parser.proofs.Demands.{demands}
+use Rattle.parser.proofs.Contract.{demands}
 use Rattle.cursor.specs.Answers.{asBuilt}
 use Rattle.cursor.proofs.CheckPaths.{via}
 use mathlib.Core.Path.{_≡_, refl, sym, ap, _∙_}

@@ -1,0 +1,98 @@
+-- Which of the known sheets follow the grammar: those that are read with no error, and no others.
+use Prim.Native.Nat.{ℕ}
+use mathlib.Core.Path.{_≡_, refl, sym, ap, _∙_}
+use mathlib.Core.List.{List, map}
+use native.Mathlib.Omega.{arith}
+use lib.ListN.{length, replicate, length-replicate, getD}
+use Rattle.grammar.specs.Follows.{Follows}
+use Rattle.parser.specs.Parse.{parse}
+use Rattle.parser.specs.Demands.{Clean}
+use Rattle.parser.proofs.Promises.{sound, complete}
+use Rattle.known.specs.Known.{
+  Seen,
+  seen,
+  Row,
+  words,
+  empty,
+  check-then-product,
+  empty-braces,
+  number-block,
+  group-block,
+  group-table,
+  nested-blocks,
+  nameless-function,
+  lone-parenthesis,
+  import-alone,
+  broken-body,
+  table,
+  parsed,
+  allowance,
+  nodeRoom,
+  errorRoom,
+  expectedRoom,
+}
+use Rattle.known.proofs.Table.{known}
+
+abbrev InGrammar : Row → Type 0
+InGrammar row = Follows (row .text) (words (row .tokens))
+
+-- the lister's buffers, blank
+abbrev blank : ℕ → List ℕ
+blank k = replicate k 0
+
+abbrev read : Row → Seen
+read row = parsed (blank nodeRoom) (blank errorRoom) (blank expectedRoom) row
+
+-- what the table says of the row at a place
+at : (i : ℕ) → getD (map read table) i (read empty) ≡ getD (map (λ row. row .outcome) table) i (read empty)
+at i = ap (λ rows. getD rows i (read empty)) (known (blank nodeRoom) (blank errorRoom) (blank expectedRoom) (length-replicate {A = ℕ} nodeRoom 0) (length-replicate {A = ℕ} errorRoom 0) (length-replicate {A = ℕ} expectedRoom 0))
+
+module _ (row : Row) (is : read row ≡ row .outcome) (answered : row .outcome .number ≡ 0) where
+  is-read : parse (row .text) (words (row .tokens)) allowance (blank nodeRoom) (blank errorRoom) (blank expectedRoom) .number ≡ 0
+  unfolding seen
+  is-read = ap (λ s. s .number) is ∙ answered
+
+  is-counted : parse (row .text) (words (row .tokens)) allowance (blank nodeRoom) (blank errorRoom) (blank expectedRoom) .errors ≡ row .outcome .errors
+  unfolding seen
+  is-counted = ap (λ s. s .errors) is
+
+  -- a derivation, by soundness
+  follows : row .outcome .errors ≡ 0 → InGrammar row
+  follows h = sound _ _ _ _ _ _ (record { read = is-read; flawless = is-counted ∙ h })
+
+  -- none, by completeness
+  follows-not : row .outcome .errors ≡ 1 → InGrammar row → ⊥
+  follows-not h f = let z = sym (is-counted ∙ h) ∙ complete _ _ _ _ _ _ f is-read in omega (arith, z)
+
+pub empty-follows : InGrammar empty
+empty-follows = follows empty (at 0) refl refl
+
+pub check-then-product-follows : InGrammar check-then-product
+check-then-product-follows = follows check-then-product (at 1) refl refl
+
+pub empty-braces-follows : InGrammar empty-braces
+empty-braces-follows = follows empty-braces (at 2) refl refl
+
+pub number-block-follows : InGrammar number-block
+number-block-follows = follows number-block (at 3) refl refl
+
+pub group-block-follows : InGrammar group-block
+group-block-follows = follows group-block (at 4) refl refl
+
+pub group-table-follows : InGrammar group-table
+group-table-follows = follows group-table (at 5) refl refl
+
+pub nested-blocks-follows : InGrammar nested-blocks
+nested-blocks-follows = follows nested-blocks (at 6) refl refl
+
+pub nameless-function-follows : InGrammar nameless-function
+nameless-function-follows = follows nameless-function (at 7) refl refl
+
+pub lone-parenthesis-does-not : InGrammar lone-parenthesis → ⊥
+lone-parenthesis-does-not = follows-not lone-parenthesis (at 8) refl refl
+
+pub import-alone-does-not : InGrammar import-alone → ⊥
+import-alone-does-not = follows-not import-alone (at 9) refl refl
+
+pub broken-body-does-not : InGrammar broken-body → ⊥
+broken-body-does-not = follows-not broken-body (at 10) refl refl

@@ -1,0 +1,211 @@
+-- What the statements in a row add to the live list. A statement that failed is skipped up to Eol, Eof or the end of the statements, and what
+-- is expected there is added too. The next turn then goes on past an Eol only, with an empty list; and a turn that begins with a longer list
+-- does not begin at Eof, and so passes a token before it comes to stop there. So the list does not grow from one turn to the next.
+use mathlib.Core.Path.{_≡_, refl, sym, ap, _∙_, subst}
+use mathlib.Core.List.{List, [], _∷_}
+use mathlib.Core.Bool.{Bool, true, false}
+use Prim.Native.Nat.{ℕ, zero, suc, _+_, _-_, _<_, _≤_}
+use native.Mathlib.Nat.{le-trans}
+use native.Mathlib.Omega.{arith}
+use lib.Dec.{ltb}
+use lib.ListN.{length}
+use borrow.Author.Tests.{ltb-true}
+use Rattle.kinds.specs.Number as kind
+use Rattle.cursor.specs.declared.State.{State}
+use Rattle.cursor.specs.declared.Kids.{Kids}
+use Rattle.cursor.specs.Sheet.{Sheet, count, kindAt}
+use Rattle.cursor.specs.Rule.{World, Rule, _>>=_, give, ifSo, Next, more, stop, next, turns, iterate}
+use Rattle.cursor.specs.Tokens.{pastTrivia, eatTrivia, eolTurn, eatEol}
+use Rattle.cursor.specs.Checks.{liveRoom, pickFrom}
+use Rattle.cursor.specs.Attempts.{unbuilt, recover}
+use Rattle.cursor.specs.Records.{noKids}
+use Rattle.parts.specs.Recovery.{skipTurn, skip, skipped, afterStmt}
+use Rattle.exprs.specs.Inner.{Inner}
+use Rattle.exprs.specs.Body.{stmtOr, bodyTurn, body}
+use Rattle.live.proofs.Live.{Ends, well, branch, weaken, then, either, Settled, settled-by, Kept, fresh, same, at-most, Adds, adds}
+use Rattle.live.proofs.Together.{binds}
+use Rattle.live.proofs.Cursor.{calm-past, Checked, found, other, check-tells, bump-tells, eols-bounded, eat-eol-bounded, log-still}
+use Rattle.live.proofs.Lines.{Eaten, ate, missed, After, closed, over, lined, unlined, stands, eat-tells, after-stmt-tells}
+use Rattle.live.proofs.Handed.{Handed}
+use Rattle.live.proofs.Stmts.{stmt-bounded}
+
+-- a kind is none of these
+abbrev None : ℕ → List ℕ → Type 0
+None k [] = Unit {0}
+None k (j ∷ ks) = (k ≡ j → ⊥) × None k ks
+
+-- where what is left of a statement is skipped to
+abbrev ends-at : ℕ → List ℕ
+ends-at end = kind.Eol ∷ kind.Eof ∷ end ∷ []
+
+-- what was skipped: some token, or none, and then one of those kinds stands here
+data Skipped (end k : ℕ) (s s1 : State) : Type 0 where
+  some : s1 .live ≤ 3 → Skipped end k s s1
+  nothing : (None k (ends-at end) → ⊥) → s1 .at ≡ s .at → s1 .live ≤ s .live + 3 → Skipped end k s s1
+
+one-more : (n m : ℕ) {a b : ℕ} → a ≤ b + m → b ≤ n + 1 → a ≤ n + suc m
+one-more n m p q = omega arith
+
+module _ (e : Sheet) where
+  -- a chain of tests: where none of its kinds stands here its answer is past them
+  pick-tells : {k : ℕ} (ks : List ℕ) (i : ℕ) (s : State) (w : World) → kindAt (e .tokens) (s .at) ≡ k → s .live + length ks ≤ liveRoom
+      → Ends (λ s1 j. (s1 .at ≡ s .at) × (s1 .live ≤ s .live + length ks) × (None k ks → j ≡ i + length ks)) (λ _. ⊥) (pickFrom e ks i s w)
+  unfolding pickFrom
+  pick-tells [] i s w q g = well (refl, no-longer (s .live), λ _. at-end i)
+    where
+      no-longer : (n : ℕ) → n ≤ n + 0
+      no-longer n = omega arith
+
+      at-end : (i : ℕ) → i ≡ i + 0
+      at-end i = omega arith
+  pick-tells {k} (c ∷ ks) i s w q g = then (check-tells e c s w q (omega arith)) (λ _ z. z) (λ s1 w1 b z. by s1 w1 b z (λ r t. pick-tells ks (i + 1) s1 w1 r t))
+    where
+      shift : (i n : ℕ) → i + 1 + n ≡ i + suc n
+      shift i n = omega arith
+
+      no-shorter : (n m : ℕ) {a : ℕ} → a ≤ n → a ≤ n + m
+      no-shorter n m p = omega arith
+
+      by : (s1 : State) (w1 : World) (b : Bool) → Checked k c s s1 b
+          → (kindAt (e .tokens) (s1 .at) ≡ k → s1 .live + length ks ≤ liveRoom → Ends (λ s2 j. (s2 .at ≡ s1 .at) × (s2 .live ≤ s1 .live + length ks) × (None k ks → j ≡ i + 1 + length ks)) (λ _. ⊥) (pickFrom e ks (i + 1) s1 w1))
+          → Ends (λ s2 j. (s2 .at ≡ s .at) × (s2 .live ≤ s .live + length (c ∷ ks)) × (None k (c ∷ ks) → j ≡ i + length (c ∷ ks))) (λ _. ⊥) (ifSo (give i) (pickFrom e ks (i + 1)) b s1 w1)
+      by s1 w1 true (found p t l) f = well (t, no-shorter (s .live) (suc (length ks)) l, λ n. absurd (n .0 p))
+      by s1 w1 false (other p t l) f = weaken (f (stands e t q) (omega arith)) (λ s2 j z. (z .0 ∙ t, one-more (s .live) (length ks) (z .1) l, λ n. z .2 (n .1) ∙ shift i (length ks))) (λ _ z. z)
+
+  -- a turn of skipping stops at one of the kinds, or passes a token
+  data Skips (end k : ℕ) (s s1 : State) : Next (Unit {0}) → Type 0 where
+    halts : {x : Unit {0}} → (None k (ends-at end) → ⊥) → s1 .at ≡ s .at → s1 .live ≤ s .live + 3 → Skips end k s s1 (stop x)
+    passes : {x : Unit {0}} → s1 .live ≤ 0 → Skips end k s s1 (more x)
+
+  skip-turn-tells : {k : ℕ} (end : ℕ) (x : Unit {0}) (s : State) (w : World) → kindAt (e .tokens) (s .at) ≡ k → Settled e s → s .live + 3 ≤ liveRoom → Ends (λ s1 n. Settled e s1 × Skips end k s s1 n) (λ _. ⊥) (skipTurn e end x s w)
+  unfolding skipTurn
+  skip-turn-tells {k} end x s w q h g =
+      then (pick-tells (ends-at end) 0 s w q g) (λ _ z. z)
+      (λ s1 w1 j z. branch (ltb j 3) (λ p. well (settled-by (z .0) h, halts (λ n. past j (ltb-true j 3 p) (z .2 n)) (z .0) (z .1))) (λ _. then (bump-tells e s1 w1 (settled-by (z .0) h)) (λ _ u. u) (λ s2 w2 _ u. well (u .0, passes (u .1)))))
+    where
+      past : (j : ℕ) → j < 3 → j ≡ 0 + 3 → ⊥
+      past j l q = omega arith
+
+  skips-on : (end n : ℕ) (x : Unit {0}) (s : State) (w : World) → Settled e s → s .live ≤ 0 → Ends (λ s1 _. Settled e s1 × (s1 .live ≤ 3)) (λ _. ⊥) (turns (skipTurn e end) n x s w)
+  unfolding turns
+  skips-on end zero x s w h l = well (h, le-trans l (omega arith))
+  skips-on end (suc n) x s w h l = then (skip-turn-tells end x s w refl h (omega arith)) (λ _ z. z) (λ s1 w1 y z. by (skips-on end n) s s1 w1 y l (z .0) (z .1))
+    where
+      by : {r : Unit {0} → Rule (Unit {0})} {k : ℕ} → ((x : Unit {0}) (s : State) (w : World) → Settled e s → s .live ≤ 0 → Ends (λ s1 _. Settled e s1 × (s1 .live ≤ 3)) (λ _. ⊥) (r x s w)) → (s s1 : State) (w1 : World) (y : Next (Unit {0})) → s .live ≤ 0 → Settled e s1 → Skips end k s s1 y → Ends (λ s2 _. Settled e s2 × (s2 .live ≤ 3)) (λ _. ⊥) (next r y s1 w1)
+      by on s s1 w1 (stop x) l h (halts n t o) = well (h, omega arith)
+      by on s s1 w1 (more x) l h (passes o) = on x s1 w1 h o
+
+  skip-tells : {k : ℕ} (end : ℕ) (s : State) (w : World) → kindAt (e .tokens) (s .at) ≡ k → Settled e s → s .live + 3 ≤ liveRoom → Ends (λ s1 _. Settled e s1 × Skipped end k s s1) (λ _. ⊥) (skip e end s w)
+  unfolding skip iterate turns
+  skip-tells {k} end s w q h g = then (skip-turn-tells end tt s w q h g) (λ _ z. z) (λ s1 w1 y z. by (count (e .tokens) - s .at) s1 w1 y (z .0) (z .1))
+    where
+      by : (n : ℕ) (s1 : State) (w1 : World) (y : Next (Unit {0})) → Settled e s1 → Skips end k s s1 y → Ends (λ s2 _. Settled e s2 × Skipped end k s s2) (λ _. ⊥) (next (turns (skipTurn e end) n) y s1 w1)
+      by n s1 w1 (stop x) h (halts m t o) = well (h, nothing m t o)
+      by n s1 w1 (more x) h (passes o) = weaken (skips-on end n x s1 w1 h o) (λ s2 _ z. (z .0, some (z .1))) (λ _ z. z)
+
+-- behind a statement: it is done, or it was skipped
+data Stated (e : Sheet) (N end : ℕ) (s s1 : State) : Type 0 where
+  well-done : s1 .live ≤ N + 42 → Stated e N end s s1
+  given-up : (None (kindAt (e .tokens) (s1 .at)) (ends-at end) → ⊥) → Kept N s s1 26 0 45 false → Stated e N end s s1
+
+-- where a turn goes on: with an empty list, or not at Eof
+pub data Open (e : Sheet) (N : ℕ) (s : State) : Type 0 where
+  low : s .live ≤ 0 → Open e N s
+  high : (kindAt (e .tokens) (s .at) ≡ kind.Eof → ⊥) → s .live ≤ N + 45 → Open e N s
+
+-- a turn over statements
+pub data Turned (e : Sheet) (N : ℕ) (s s1 : State) : Next Kids → Type 0 where
+  goes : {x : Kids} → Open e N s1 → Turned e N s s1 (more x)
+  stops-low : {x : Kids} → s1 .live ≤ N + 46 → Turned e N s s1 (stop x)
+  stops-at-end : {x : Kids} → kindAt (e .tokens) (s .at) ≡ kind.Eof → s1 .at ≡ s .at → s1 .live ≤ s .live + 28 → Turned e N s s1 (stop x)
+
+module _ {r : Inner} {N : ℕ} (x : Handed r N) (room : N + 112 ≤ liveRoom) where
+  stmt-or-tells : (end : ℕ) (s : State) (w : World) → Settled (r .sheet) s → s .live + 26 ≤ liveRoom → Ends (λ s1 _. Settled (r .sheet) s1 × Stated (r .sheet) N end s s1) (λ _. ⊥) (stmtOr r end s w)
+  unfolding stmtOr recover skipped
+  stmt-or-tells end s w h g =
+      either (stmt-bounded x .ends s w h (omega arith) (omega arith))
+      (λ s1 w1 _ z. well (z .0, well-done (at-most (z .1))))
+      (λ s1 w1 f z. then (log-still f .stays (unbuilt s s1) w1) (λ _ u. u)
+      (λ s2 w2 _ u. then (skip-tells (r .sheet) end s2 w2 refl (settled-by (u .0) (z .0)) (few s1 s2 (u .1) (z .1))) (λ _ v. v)
+      (λ s3 w3 _ v. well (v .0, by s1 s2 s3 (u .0) (u .1) (z .1) (v .1)))))
+    where
+      few : (s1 s2 : State) → s2 .live ≤ s1 .live → Kept N s s1 23 0 42 false → s2 .live + 3 ≤ liveRoom
+      few s1 s2 l (fresh o) = omega arith
+      few s1 s2 l (same t o) = omega arith
+
+      by : (s1 s2 s3 : State) → s2 .at ≡ s1 .at → s2 .live ≤ s1 .live → Kept N s s1 23 0 42 false → Skipped end (kindAt (r .sheet .tokens) (s2 .at)) s2 s3 → Stated (r .sheet) N end s s3
+      by s1 s2 s3 p l z (some o) = well-done (omega arith)
+      by s1 s2 s3 p l (fresh o) (nothing n t u) = given-up (λ m. n (subst (λ i. None (kindAt (r .sheet .tokens) i) (ends-at end)) t m)) (fresh (omega arith))
+      by s1 s2 s3 p l (same v o) (nothing n t u) = given-up (λ m. n (subst (λ i. None (kindAt (r .sheet .tokens) i) (ends-at end)) t m)) (same (t ∙ p ∙ v) (omega arith))
+
+  pub body-turn-tells : (end : ℕ) (kids : Kids) (s : State) (w : World) → Settled (r .sheet) s → s .live + 30 ≤ liveRoom → Ends (λ s1 n. Settled (r .sheet) s1 × Turned (r .sheet) N s s1 n) (λ _. ⊥) (bodyTurn r end kids s w)
+  unfolding bodyTurn
+  body-turn-tells end kids s w h g = then (eat-tells (r .sheet) end s w refl h (omega arith)) (λ _ z. z) (λ s1 w1 b z. by s1 w1 b z)
+    where
+      -- behind the statement, from s1 on
+      joins : (s1 s2 s3 : State) (n : Next Kids) → s1 .at ≡ s .at → s1 .live ≤ s .live + 1 → Stated (r .sheet) N end s1 s2 → After (r .sheet) end (kindAt (r .sheet .tokens) (s2 .at)) s2 s3 n → Turned (r .sheet) N s s3 n
+      joins s1 s2 s3 (stop y) t l z (closed o) = stops-low (omega arith)
+      joins s1 s2 s3 (stop y) t l (well-done v) (over p u o) = stops-low (omega arith)
+      joins s1 s2 s3 (stop y) t l (given-up n (fresh v)) (over p u o) = stops-low (omega arith)
+      joins s1 s2 s3 (stop y) t l (given-up n (same v q)) (over p u o) = stops-at-end (sym (ap (kindAt (r .sheet .tokens)) (v ∙ t)) ∙ p) (u ∙ v ∙ t) (omega arith)
+      joins s1 s2 s3 (more y) t l z (lined o) = goes (low o)
+      joins s1 s2 s3 (more y) t l (well-done v) (unlined p q n u o) = goes (high (λ m. q (sym (ap (kindAt (r .sheet .tokens)) u) ∙ m)) (omega arith))
+      joins s1 s2 s3 (more y) t l (given-up m v) (unlined p q n u o) = absurd (m (n, (q, (p, tt))))
+
+      few : (s1 s2 : State) → s1 .live ≤ s .live + 1 → Stated (r .sheet) N end s1 s2 → s2 .live + 3 ≤ liveRoom
+      few s1 s2 l (well-done o) = omega arith
+      few s1 s2 l (given-up n (fresh o)) = omega arith
+      few s1 s2 l (given-up n (same t o)) = omega arith
+
+      by : (s1 : State) (w1 : World) (b : Bool) → Eaten (r .sheet) (kindAt (r .sheet .tokens) (s .at)) end s s1 b → Ends (λ s2 n. Settled (r .sheet) s2 × Turned (r .sheet) N s s2 n) (λ _. ⊥) (ifSo (give (stop kids)) (stmtOr r end >>= (λ link. afterStmt (r .sheet) end kids link)) b s1 w1)
+      by s1 w1 true (ate p i l) = well (i, stops-low (le-trans l (omega arith)))
+      by s1 w1 false (missed p t l) =
+          then (stmt-or-tells end s1 w1 (settled-by t h) (omega arith)) (λ _ z. z)
+          (λ s2 w2 link z. weaken (after-stmt-tells (r .sheet) end kids link s2 w2 refl (z .0) (few s1 s2 l (z .1))) (λ s3 n u. (u .0, joins s1 s2 s3 n t l (z .1) (u .1))) (λ _ u. u))
+
+  -- turn after turn, where one went on
+  rows-on : (end n : ℕ) (kids : Kids) (s : State) (w : World) → Settled (r .sheet) s → Open (r .sheet) N s → Ends (λ s1 _. Settled (r .sheet) s1 × (s1 .live ≤ N + 46)) (λ _. ⊥) (turns (bodyTurn r end) n kids s w)
+  unfolding turns
+  rows-on end zero kids s w h o = well (h, at-worst o)
+    where
+      at-worst : {s : State} → Open (r .sheet) N s → s .live ≤ N + 46
+      at-worst (low l) = omega arith
+      at-worst (high n l) = omega arith
+  rows-on end (suc n) kids s w h o = then (body-turn-tells end kids s w h (enough o)) (λ _ z. z) (λ s1 w1 y z. by (rows-on end n) s s1 w1 y o (z .0) (z .1))
+    where
+      enough : {s : State} → Open (r .sheet) N s → s .live + 30 ≤ liveRoom
+      enough (low l) = omega arith
+      enough (high n l) = omega arith
+
+      by : {q : Kids → Rule Kids} → ((x : Kids) (s : State) (w : World) → Settled (r .sheet) s → Open (r .sheet) N s → Ends (λ s1 _. Settled (r .sheet) s1 × (s1 .live ≤ N + 46)) (λ _. ⊥) (q x s w)) → (s s1 : State) (w1 : World) (y : Next Kids) → Open (r .sheet) N s → Settled (r .sheet) s1 → Turned (r .sheet) N s s1 y → Ends (λ s2 _. Settled (r .sheet) s2 × (s2 .live ≤ N + 46)) (λ _. ⊥) (next q y s1 w1)
+      by on s s1 w1 (more y) o h (goes p) = on y s1 w1 h p
+      by on s s1 w1 (stop y) o h (stops-low l) = well (h, l)
+      by on s s1 w1 (stop y) (low l) h (stops-at-end p t n) = well (h, omega arith)
+      by on s s1 w1 (stop y) (high m l) h (stops-at-end p t n) = absurd (m p)
+
+module _ {r : Inner} {N : ℕ} (x : Handed r N) where
+  rows-bounded : (end : ℕ) (kids : Kids) → Adds (r .sheet) N 30 46 0 112 (iterate (r .sheet) (bodyTurn r end) kids)
+  unfolding iterate turns
+  rows-bounded end kids = record { ends = λ s w h g t. then (body-turn-tells x t end kids s w h g) (λ _ z. absurd z) (λ s1 w1 y z. by t (count (r .sheet .tokens) - s .at) s s1 w1 y (z .0) (z .1)) }
+    where
+      by : N + 112 ≤ liveRoom → (n : ℕ) (s s1 : State) (w1 : World) (y : Next Kids) → Settled (r .sheet) s1 → Turned (r .sheet) N s s1 y → Ends (λ s2 _. Settled (r .sheet) s2 × Kept N s s2 30 0 46 false) (λ s2. Settled (r .sheet) s2 × Kept N s s2 30 0 0 false) (next (turns (bodyTurn r end) n) y s1 w1)
+      by t n s s1 w1 (more y) h (goes p) = weaken (rows-on x t end n y s1 w1 h p) (λ s2 _ z. (z .0, fresh (z .1))) (λ _ z. absurd z)
+      by t n s s1 w1 (stop y) h (stops-low l) = well (h, fresh l)
+      by t n s s1 w1 (stop y) h (stops-at-end p q l) = well (h, same q (le-trans l (omega arith)))
+
+  -- from behind the trivia on
+  rest-bounded : (end : ℕ) → Adds (r .sheet) N 30 46 30 112 (iterate (r .sheet) (eolTurn (r .sheet)) tt >>= (λ _. iterate (r .sheet) (bodyTurn r end) noKids))
+  rest-bounded end = adds (binds (eols-bounded tt) (λ _. rows-bounded end noKids)) refl refl refl refl
+
+  pub body-bounded : (end : ℕ) → Adds (r .sheet) N 30 46 30 112 (body r end)
+  unfolding body
+  body-bounded end = adds (binds eat-eol-bounded (λ _. rows-bounded end noKids)) refl refl refl refl
+
+  -- wherever they begin
+  pub body-anywhere : (end : ℕ) (s : State) (w : World) → s .live + 30 ≤ liveRoom → N + 112 ≤ liveRoom → Ends (λ s1 _. s1 .live ≤ liveRoom) (λ _. Unit {0}) (body r end s w)
+  unfolding body eatEol eatTrivia
+  body-anywhere end s w g t = weaken (rest-bounded end .ends (record { at = pastTrivia (r .sheet .tokens) (s .at); prev = s .prev; reads = s .reads; nodes = s .nodes; errors = s .errors; wanted = s .wanted; live = s .live }) w (record { calm = calm-past (r .sheet .tokens) (s .at) }) g t) (λ s1 _ z. by s1 g (z .1)) (λ _ _. tt)
+    where
+      by : {s : State} (s1 : State) → s .live + 30 ≤ liveRoom → Kept N s s1 30 0 46 false → s1 .live ≤ liveRoom
+      by s1 g (fresh l) = omega arith
+      by s1 g (same q l) = omega arith

@@ -1,0 +1,14 @@
+pub mod Live
+pub mod Together
+pub mod Cursor
+pub mod Items
+pub mod Types
+pub mod Parts
+pub mod Recovery
+pub mod Handed
+pub mod Exprs
+pub mod Atoms
+pub mod Stmts
+pub mod Lines
+pub mod Body
+pub mod Program

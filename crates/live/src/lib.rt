@@ -1,0 +1,1 @@
+// That the live list of expected kinds never fills: proofs alone.
