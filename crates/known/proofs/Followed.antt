@@ -1,13 +1,15 @@
--- Which of the known sheets follow the grammar: those that are read with no error, and no others.
+-- Which of the known sheets follow the grammar: those that are read with no error, and no others; and the sums over their marks, which are the
+-- document's readings.
 use Prim.Native.Nat.{ℕ}
 use mathlib.Core.Path.{_≡_, refl, sym, ap, _∙_}
 use mathlib.Core.List.{List, map}
 use native.Mathlib.Omega.{arith}
 use lib.ListN.{length, replicate, length-replicate, getD}
 use Rattle.grammar.specs.Follows.{Follows}
+use Rattle.grammar.specs.Marks.{marks, readings}
 use Rattle.parser.specs.Parse.{parse}
 use Rattle.parser.specs.Demands.{Clean}
-use Rattle.parser.proofs.Promises.{sound, complete}
+use Rattle.parser.proofs.Promises.{sound, complete, readings-summed}
 use Rattle.known.specs.Known.{
   Seen,
   seen,
@@ -60,6 +62,11 @@ module _ (row : Row) (is : read row ≡ row .outcome) (answered : row .outcome .
   follows : row .outcome .errors ≡ 0 → InGrammar row
   follows h = sound _ _ _ _ _ _ (record { read = is-read; flawless = is-counted ∙ h })
 
+  -- the readings of any derivation, off the grammar
+  summed : (f : InGrammar row) → readings (marks (f .body)) ≡ row .outcome .reads
+  unfolding seen
+  summed f = sym (readings-summed _ _ _ _ _ _ f is-read) ∙ ap (λ s. s .reads) is
+
   -- none, by completeness
   follows-not : row .outcome .errors ≡ 1 → InGrammar row → ⊥
   follows-not h f = let z = sym (is-counted ∙ h) ∙ complete _ _ _ _ _ _ f is-read in omega (arith, z)
@@ -67,26 +74,50 @@ module _ (row : Row) (is : read row ≡ row .outcome) (answered : row .outcome .
 pub empty-follows : InGrammar empty
 empty-follows = follows empty (at 0) refl refl
 
+pub empty-sum : (f : InGrammar empty) → readings (marks (f .body)) ≡ 0
+empty-sum = summed empty (at 0) refl
+
 pub check-then-product-follows : InGrammar check-then-product
 check-then-product-follows = follows check-then-product (at 1) refl refl
+
+pub check-then-product-sum : (f : InGrammar check-then-product) → readings (marks (f .body)) ≡ 5
+check-then-product-sum = summed check-then-product (at 1) refl
 
 pub empty-braces-follows : InGrammar empty-braces
 empty-braces-follows = follows empty-braces (at 2) refl refl
 
+pub empty-braces-sum : (f : InGrammar empty-braces) → readings (marks (f .body)) ≡ 3
+empty-braces-sum = summed empty-braces (at 2) refl
+
 pub number-block-follows : InGrammar number-block
 number-block-follows = follows number-block (at 3) refl refl
+
+pub number-block-sum : (f : InGrammar number-block) → readings (marks (f .body)) ≡ 4
+number-block-sum = summed number-block (at 3) refl
 
 pub group-block-follows : InGrammar group-block
 group-block-follows = follows group-block (at 4) refl refl
 
+pub group-block-sum : (f : InGrammar group-block) → readings (marks (f .body)) ≡ 8
+group-block-sum = summed group-block (at 4) refl
+
 pub group-table-follows : InGrammar group-table
 group-table-follows = follows group-table (at 5) refl refl
+
+pub group-table-sum : (f : InGrammar group-table) → readings (marks (f .body)) ≡ 7
+group-table-sum = summed group-table (at 5) refl
 
 pub nested-blocks-follows : InGrammar nested-blocks
 nested-blocks-follows = follows nested-blocks (at 6) refl refl
 
+pub nested-blocks-sum : (f : InGrammar nested-blocks) → readings (marks (f .body)) ≡ 22
+nested-blocks-sum = summed nested-blocks (at 6) refl
+
 pub nameless-function-follows : InGrammar nameless-function
 nameless-function-follows = follows nameless-function (at 7) refl refl
+
+pub nameless-function-sum : (f : InGrammar nameless-function) → readings (marks (f .body)) ≡ 6
+nameless-function-sum = summed nameless-function (at 7) refl
 
 pub lone-parenthesis-does-not : InGrammar lone-parenthesis → ⊥
 lone-parenthesis-does-not = follows-not lone-parenthesis (at 8) refl refl
