@@ -1,5 +1,5 @@
 #!/bin/sh
-# check.sh: builds the oracle, compares the known sheets, checks demand 3's sum on fresh sheets, and makes the stored answers again,
+# check.sh: builds the oracle, compares the known sheets, checks demand 3's sum on fresh sheets and on the stored ones, and makes the stored answers again,
 # twice, and the whole answers of some of them, which must come out byte for byte as they are stored. Needs LUCIA_SRC.
 set -eu
 cd "$(dirname "$0")"
@@ -11,6 +11,7 @@ target/bin/known
     target/bin/sheets grammatical 12 2000 200
     target/bin/sheets damaged 13 30000 40
 } | target/bin/readings
+target/bin/readings < answers/all.bundles
 for run in 1 2; do
     ./answers.sh "target/again-$run" 2> /dev/null
     for file in all.bundles all.listings sets.txt; do
