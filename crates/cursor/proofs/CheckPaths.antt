@@ -1,14 +1,15 @@
 -- Each way through the rules that test what stands here.
 use mathlib.Core.Path.{_≡_, refl, sym, ap, _∙_}
-use mathlib.Core.Bool.{true, false}
+use mathlib.Core.Bool.{Bool, true, false, false≢true}
 use mathlib.Core.List.{List}
 use lib.ListN.{set, length, drop, getD}
 use lib.Seq.{drop-cons, drop-nil}
+use lib.Dec.{leb}
 use native.Mathlib.Omega.{arith}
 use native.Mathlib.Numerals.{add-one}
 use mathlib.Core.List.{[], _∷_}
 use Prim.Native.Nat.{ℕ, zero, suc, _+_, _<_, _≤_}
-use borrow.Author.Tests.{eq-eqb, ne-eqb, lt-ltb, le-ltb}
+use borrow.Author.Tests.{eq-eqb, ne-eqb, lt-ltb, le-ltb, leb-true, leb-false, le-leb, lt-leb}
 use Rattle.cursor.specs.declared.State.{State}
 use Rattle.cursor.specs.declared.Fault.{Fault}
 use Rattle.cursor.specs.declared.Ranged.{Ranged}
@@ -17,7 +18,7 @@ use Rattle.cursor.specs.Sheet.{Sheet, kindAt, rangeAt}
 use Rattle.cursor.specs.Rule.{World, Stop, fault, refused, done, failed}
 use Rattle.cursor.specs.Buffer.{put}
 use Rattle.cursor.specs.Tokens.{bump}
-use Rattle.cursor.specs.Checks.{liveRoom, want, check, eat, unexpectedAt, unexpected, expect, eatRange, pickFrom, foundAt}
+use Rattle.cursor.specs.Checks.{liveRoom, roomFor, fullAt, want, check, eat, unexpectedAt, unexpected, expect, eatRange, pickFrom, foundAt}
 
 -- what a rule answered, from what a function with that rule ensures and what its result is known to be
 pub via : {A B : Type 0} (f : A → World → B) {r v : A} {w : World} {m : B} → f r w ≡ m → r ≡ v → m ≡ f v w
@@ -97,6 +98,37 @@ pub drop-all : (ks : List ℕ) (i : ℕ) → length ks ≤ i → drop i ks ≡ [
 drop-all [] i h = drop-nil i
 drop-all (k ∷ ks) zero h = absurd (omega arith)
 drop-all (k ∷ ks) (suc i) h = drop-all ks i (omega arith)
+
+-- the room of the live list, told for a whole chain
+pub roomy-within : (told more : ℕ) → roomFor told more ≡ true → told + more ≤ liveRoom
+unfolding roomFor
+roomy-within told more p = leb-true _ _ p
+
+pub room-for : (told more : ℕ) → told + more ≤ liveRoom → true ≡ roomFor told more
+unfolding roomFor
+room-for told more p = sym (le-leb _ _ p)
+
+pub no-room-for : (told more : ℕ) → liveRoom < told + more → false ≡ roomFor told more
+unfolding roomFor
+no-room-for told more p = sym (lt-leb _ _ p)
+
+pub full-roomy : (roomy : Bool) (told : ℕ) → roomy ≡ true → false ≡ fullAt roomy told
+unfolding fullAt
+full-roomy roomy told p = rw p
+
+pub full-tight : (roomy : Bool) (told : ℕ) → roomy ≡ false → leb liveRoom told ≡ fullAt roomy told
+unfolding fullAt
+full-tight roomy told p = rw p
+
+pub full-at : (roomy : Bool) (told : ℕ) → fullAt roomy told ≡ true → liveRoom ≤ told
+unfolding fullAt
+full-at true told p = absurd (false≢true p)
+full-at false told p = leb-true _ _ p
+
+pub not-full : (roomy : Bool) (told : ℕ) → fullAt roomy told ≡ false → (roomy ≡ true → told < liveRoom) → told < liveRoom
+unfolding fullAt
+not-full true told p q = q refl
+not-full false told p q = leb-false _ _ p
 
 -- a chain of checks, at its place i
 module _ (e : Sheet) (ks : List ℕ) (i : ℕ) (s : State) (w : World) where

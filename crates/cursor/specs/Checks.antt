@@ -2,7 +2,7 @@
 use Prim.Native.Nat.{ℕ, _+_}
 use mathlib.Core.List.{List, [], _∷_}
 use mathlib.Core.Bool.{Bool, true, false}
-use lib.Dec.{ltb, eqb}
+use lib.Dec.{ltb, leb, eqb}
 use Rattle.cursor.specs.declared.State.{State}
 use Rattle.cursor.specs.declared.Fault.{Fault}
 use Rattle.cursor.specs.declared.Span.{Span}
@@ -16,6 +16,15 @@ use Rattle.cursor.specs.Tokens.{bump}
 -- the longest live list
 abbrev pub liveRoom : ℕ
 liveRoom = 1024
+
+-- whether the live list has room for so many kinds more, behind those told
+unfoldable pub roomFor : ℕ → ℕ → Bool
+roomFor told more = leb (told + more) liveRoom
+
+-- whether it is full, where it is not known to have room
+unfoldable pub fullAt : Bool → ℕ → Bool
+fullAt true told = false
+fullAt false told = leb liveRoom told
 
 -- one more expected kind, repeats kept; 11 where the live list would pass its room
 unfoldable pub want : ℕ → Rule Unit

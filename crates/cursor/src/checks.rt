@@ -5,7 +5,7 @@ ghost use Prim.Native.Nat.{ℕ};
 ghost use Rattle.cursor.specs.declared.Limits.{Limits};
 ghost use Rattle.cursor.specs.Sheet.{sheet};
 ghost use Rattle.cursor.specs.Rule.{world};
-ghost use Rattle.cursor.specs.Checks.{check, eat, expect, eatRange, pick, unexpectedAt};
+ghost use Rattle.cursor.specs.Checks.{check, eat, expect, eatRange, pick, unexpectedAt, roomFor, fullAt};
 ghost use Rattle.cursor.specs.Answers.{asMoved, asTest, asEaten, asPicked};
 use crate::Eaten;
 use crate::Failure;
@@ -111,11 +111,33 @@ pub fn eat_range(tokens: &[u32], live: &mut [u8; 1024], limits: Limits, s: State
     }
 }
 
+// Whether the live list has room for so many kinds more.
+fn has_room(told: usize, more: usize) -> bool
+    ensures { λ r. ⌜ r ≡ roomFor told more ⌝ }
+{
+    if LIVE_ROOM < more {
+        return false;
+    }
+    if LIVE_ROOM - more < told {
+        return false;
+    }
+    true
+}
+
+// Whether it is full, where it is not known to be roomy.
+fn is_full(roomy: bool, told: usize) -> bool
+    ensures { λ r. ⌜ r ≡ fullAt roomy told ⌝ }
+{
+    if roomy { false } else { LIVE_ROOM <= told }
+}
+
 // A chain of checks: the place of the first kind that stands here; where none does, the chain's length.
 pub fn pick(tokens: &[u32], live: &mut [u8; 1024], s: State, chain: &[u8]) -> Picked
     ensures { λ r. ⌜ ((x : List ℕ) (l : Limits) (n e y : List ℕ) → asPicked r (world n e y (now (live .exit))) ≡ pick (sheet x (now (tokens .entry)) l) (now (chain .entry)) s (world n e y (now (live .entry)))) ⌝ }
 {
     let found = current_kind(tokens, s);
+    // Told once for the whole chain, so that its kinds need no test each: the list is never full in a sheet.
+    let roomy = has_room(s.live, chain.len());
     let mut t = s;
     let mut i = 0;
     while i < chain.len() {
@@ -124,7 +146,7 @@ pub fn pick(tokens: &[u32], live: &mut [u8; 1024], s: State, chain: &[u8]) -> Pi
             return Picked::Case(t, i);
         }
         let told = t.live;
-        if LIVE_ROOM <= told {
+        if is_full(roomy, told) {
             return Picked::Failed(Failure::Refused(11));
         }
         live[told] = kind;

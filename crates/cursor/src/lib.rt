@@ -50,10 +50,11 @@ pub struct Fault {
     pub listed: bool,
 }
 
-// How a rule ends where it does not succeed: Rust's Err, or a refusal, which ends the whole reading.
+// How a rule ends where it does not succeed: Rust's Err, or a refusal, which ends the whole reading. Its number is as wide as a place: a narrow one
+// would lie over a part of a State's first word in every answer, and each copy of a State would be put together from bytes.
 pub enum Failure {
     Fault(State, Fault),
-    Refused(u8),
+    Refused(usize),
 }
 
 // The answer of a rule that only moves.

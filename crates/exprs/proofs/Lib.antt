@@ -8,6 +8,7 @@ pub mod RecordStays
 pub mod StatementPaths
 pub mod Stays
 pub mod StmtStays
+pub mod Suffixes
 pub mod TablePaths
 pub mod Takes
 pub mod Unique

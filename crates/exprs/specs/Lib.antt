@@ -3,6 +3,7 @@ pub mod Blocks
 pub mod Functions
 pub mod Tables
 pub mod Primary
+pub mod Suffix
 pub mod Atoms
 pub mod Precedence
 pub mod Statements

@@ -16,6 +16,8 @@ ghost use Rattle.exprs.specs.Primary.{postfixTurn, call, access, member}
 ghost use Rattle.exprs.specs.Tables.{key, item, itemsOf, table, brace};
 ghost use Rattle.exprs.specs.Atoms.{group, anon, ifElse, cases, matchCase, loops, form, atom, primary};
 ghost use Rattle.exprs.specs.Statements.{right, set, lefts, rights, multi, typed, assign, glo, plain, stmt};
+use crate::suffix::is_suffix;
+use crate::suffix::no_suffix;
 use cursor::Built;
 use cursor::Eaten;
 use cursor::Failure;
@@ -499,6 +501,12 @@ pub fn prec(
         }
         Parsed::Failed(f) => return Parsed::Failed(f),
     }
+    // Most operands have no operator behind them: told before the loop, which carries much.
+    let found = kinds::bin_op(current_kind(tokens, t));
+    match found {
+        Operator::Binary(_) => {}
+        Operator::Nothing => return Parsed::Node(t, x),
+    }
     loop {
         let turned = op(
             text,
@@ -792,6 +800,10 @@ fn prim(
             x = y;
         }
         Parsed::Failed(f) => return Parsed::Failed(f),
+    }
+    // And most have no call and no member.
+    if !is_suffix(current_kind(tokens, t)) {
+        return no_suffix(tokens, live, t, x, lambda);
     }
     loop {
         let turned = post(

@@ -1,3 +1,4 @@
 // Expressions, blocks and statements: the rest of parser.rs.
 pub mod exprs;
 pub mod program;
+mod suffix;

@@ -66,9 +66,13 @@ fn print_listing(nodes: &[u32], errors: &[u32], expected: &[u8], counts: Counts)
     print_listed(&out, listed);
 }
 
-fn print_refusal(number: u8) {
+// A refusal's number is 7 to 11.
+fn print_refusal(number: usize) {
+    if 11 < number {
+        return;
+    }
     let mut out = [0u8; 16];
-    let listed = listing::refusal(&mut out, number);
+    let listed = listing::refusal(&mut out, number as u8);
     print_listed(&out, listed);
 }
 

@@ -1,11 +1,12 @@
 -- The cycle of the rules on expressions, blocks and statements. Each way out is closed by its path lemma, from what the callees ensure and the
--- arms taken. Depth is used up by `exprs` and `precedence` alone, so the measure is twenty for each level and the member's rank within one.
+-- arms taken. Depth is used up by `exprs` and `prec` alone, so the measure is twenty for each level and the member's rank within one.
 use Rattle.exprs.proofs.StatementPaths as st
 use Rattle.exprs.proofs.LevelPaths as lv
 use Rattle.parts.proofs.AttemptPaths as attempts
 use Rattle.parts.proofs.UntilPaths as until
 use Rattle.exprs.proofs.PrimaryPaths as pm
 use Rattle.exprs.proofs.PrecedencePaths as pc
+use Rattle.exprs.proofs.Suffixes as sf
 use Rattle.exprs.proofs.TablePaths as tb
 use Rattle.exprs.proofs.AtomPaths as ao
 use Rattle.exprs.proofs.Takes as takes
@@ -22,6 +23,7 @@ use Rattle.exprs.specs.Statements.{typed, leftTurn, rightTurn}
 use Rattle.exprs.specs.Body.{bodyTurn}
 use Rattle.exprs.specs.Precedence.{infixTurn, handlerTurn}
 use Rattle.exprs.specs.Primary.{postfixTurn}
+use Rattle.exprs.specs.Suffix.{isSuffix}
 use Rattle.exprs.specs.Tables.{item}
 use Rattle.parts.specs.Until.{untilTurn}
 use Rattle.exprs.specs.Atoms.{caseTurn}
@@ -30,6 +32,7 @@ use Prim.Native.Nat.{ℕ, _+_, _-_, _*_, _/_}
 use mathlib.Core.List.{List, []}
 use mathlib.Core.Path.{_≡_, refl, sym, ap, _∙_}
 use native.Mathlib.Omega.{arith}
+use borrow.Author.Tests.{not-true}
 use lib.ListN.{length}
 use Prim.Native.Nat.{ℕ, _<_}
 use borrow.Fn.Kinds.{In}
@@ -164,6 +167,8 @@ use Rattle.cursor.proofs.tokens.current_kind.Reads as current-kind-reads
 use Rattle.cursor.proofs.tokens.current_range.Reads as current-range-reads
 use Rattle.cursor.proofs.tokens.eat_eol.Reads as eat-eol-reads
 use Rattle.cursor.proofs.tokens.start_range.Reads as start-range-reads
+use Rattle.exprs.proofs.suffix.is_suffix.Reads as is-suffix-reads
+use Rattle.exprs.proofs.suffix.no_suffix.Reads as no-suffix-reads
 use Rattle.kinds.proofs.bin_op.Reads as bin-op-reads
 use Rattle.kinds.proofs.precedence.Reads as precedence-reads
 use Rattle.parts.proofs.effects.effect_stmt.Reads as effect-stmt-reads
@@ -15720,26 +15725,38 @@ prec-returns : (t : ℕ) → prec-lts.Need-returns (
   start-range-reads.Learnt,
   unary-below t,
   unary.Post,
+  current-kind-reads.Asked,
+  current-kind-reads.Learnt,
+  bin-op-reads.Asked,
+  bin-op-reads.Learnt,
   op-below t,
   op.Post,
 ) (prec-at t) prec.Post prec-Inv-loop prec-μ-loop
 prec-returns t c = sym (lv.prec-none _ _ _ _ (c .if1 .taken) _ _)
 
-prec-sub-t29 : (t : ℕ) → prec-lts.Need-sub-t29 (
+prec-sub-bin-op : (t : ℕ) → prec-lts.Need-sub-bin-op (
   start-range-reads.Asked,
   start-range-reads.Learnt,
   unary-below t,
   unary.Post,
+  current-kind-reads.Asked,
+  current-kind-reads.Learnt,
+  bin-op-reads.Asked,
+  bin-op-reads.Learnt,
   op-below t,
   op.Post,
 ) (prec-at t) prec.Post prec-Inv-loop prec-μ-loop
-prec-sub-t29 t c = search needs
+prec-sub-bin-op t c = search needs
 
 prec-start-range-requires : (t : ℕ) → prec-lts.Need-start-range-requires (
   start-range-reads.Asked,
   start-range-reads.Learnt,
   unary-below t,
   unary.Post,
+  current-kind-reads.Asked,
+  current-kind-reads.Learnt,
+  bin-op-reads.Asked,
+  bin-op-reads.Learnt,
   op-below t,
   op.Post,
 ) (prec-at t) prec.Post prec-Inv-loop prec-μ-loop
@@ -15750,6 +15767,10 @@ prec-unary-requires : (t : ℕ) → prec-lts.Need-unary-requires (
   start-range-reads.Learnt,
   unary-below t,
   unary.Post,
+  current-kind-reads.Asked,
+  current-kind-reads.Learnt,
+  bin-op-reads.Asked,
+  bin-op-reads.Learnt,
   op-below t,
   op.Post,
 ) (prec-at t) prec.Post prec-Inv-loop prec-μ-loop
@@ -15760,6 +15781,10 @@ prec-enum-known-read : (t : ℕ) → prec-lts.Need-enum-known-read (
   start-range-reads.Learnt,
   unary-below t,
   unary.Post,
+  current-kind-reads.Asked,
+  current-kind-reads.Learnt,
+  bin-op-reads.Asked,
+  bin-op-reads.Learnt,
   op-below t,
   op.Post,
 ) (prec-at t) prec.Post prec-Inv-loop prec-μ-loop
@@ -15770,6 +15795,10 @@ prec-enum-known-read-2 : (t : ℕ) → prec-lts.Need-enum-known-read-2 (
   start-range-reads.Learnt,
   unary-below t,
   unary.Post,
+  current-kind-reads.Asked,
+  current-kind-reads.Learnt,
+  bin-op-reads.Asked,
+  bin-op-reads.Learnt,
   op-below t,
   op.Post,
 ) (prec-at t) prec.Post prec-Inv-loop prec-μ-loop
@@ -15780,6 +15809,10 @@ prec-same-length : (t : ℕ) → prec-lts.Need-same-length (
   start-range-reads.Learnt,
   unary-below t,
   unary.Post,
+  current-kind-reads.Asked,
+  current-kind-reads.Learnt,
+  bin-op-reads.Asked,
+  bin-op-reads.Learnt,
   op-below t,
   op.Post,
 ) (prec-at t) prec.Post prec-Inv-loop prec-μ-loop
@@ -15790,6 +15823,10 @@ prec-same-length-2 : (t : ℕ) → prec-lts.Need-same-length-2 (
   start-range-reads.Learnt,
   unary-below t,
   unary.Post,
+  current-kind-reads.Asked,
+  current-kind-reads.Learnt,
+  bin-op-reads.Asked,
+  bin-op-reads.Learnt,
   op-below t,
   op.Post,
 ) (prec-at t) prec.Post prec-Inv-loop prec-μ-loop
@@ -15800,6 +15837,10 @@ prec-same-length-3 : (t : ℕ) → prec-lts.Need-same-length-3 (
   start-range-reads.Learnt,
   unary-below t,
   unary.Post,
+  current-kind-reads.Asked,
+  current-kind-reads.Learnt,
+  bin-op-reads.Asked,
+  bin-op-reads.Learnt,
   op-below t,
   op.Post,
 ) (prec-at t) prec.Post prec-Inv-loop prec-μ-loop
@@ -15810,16 +15851,136 @@ prec-returns-2 : (t : ℕ) → prec-lts.Need-returns-2 (
   start-range-reads.Learnt,
   unary-below t,
   unary.Post,
+  current-kind-reads.Asked,
+  current-kind-reads.Learnt,
+  bin-op-reads.Asked,
+  bin-op-reads.Learnt,
   op-below t,
   op.Post,
 ) (prec-at t) prec.Post prec-Inv-loop prec-μ-loop
 prec-returns-2 t c = let c₁ = c .before in let c₂ = c₁ .before .before .before .before .before .before .before .before in let c₃ = c₂ .before .before .before .before .before in let c₄ = c₃ .before .before in sym (lv.prec-failed _ _ _ _ _ (c₃ .start-range .ensures) _ (c₄ .if1 .left) (via asParsed (c₂ .unary .ensures) (c₁ .read2 .given .1)))
+
+prec-current-kind-requires : (t : ℕ) → prec-lts.Need-current-kind-requires (
+  start-range-reads.Asked,
+  start-range-reads.Learnt,
+  unary-below t,
+  unary.Post,
+  current-kind-reads.Asked,
+  current-kind-reads.Learnt,
+  bin-op-reads.Asked,
+  bin-op-reads.Learnt,
+  op-below t,
+  op.Post,
+) (prec-at t) prec.Post prec-Inv-loop prec-μ-loop
+prec-current-kind-requires t c κs = tt
+
+prec-bin-op-requires : (t : ℕ) → prec-lts.Need-bin-op-requires (
+  start-range-reads.Asked,
+  start-range-reads.Learnt,
+  unary-below t,
+  unary.Post,
+  current-kind-reads.Asked,
+  current-kind-reads.Learnt,
+  bin-op-reads.Asked,
+  bin-op-reads.Learnt,
+  op-below t,
+  op.Post,
+) (prec-at t) prec.Post prec-Inv-loop prec-μ-loop
+prec-bin-op-requires t c κs = tt
+
+prec-enum-told : (t : ℕ) → prec-lts.Need-enum-told (
+  start-range-reads.Asked,
+  start-range-reads.Learnt,
+  unary-below t,
+  unary.Post,
+  current-kind-reads.Asked,
+  current-kind-reads.Learnt,
+  bin-op-reads.Asked,
+  bin-op-reads.Learnt,
+  op-below t,
+  op.Post,
+) (prec-at t) prec.Post prec-Inv-loop prec-μ-loop
+prec-enum-told t c = c .match2 .keys1
+
+prec-enum-told-2 : (t : ℕ) → prec-lts.Need-enum-told-2 (
+  start-range-reads.Asked,
+  start-range-reads.Learnt,
+  unary-below t,
+  unary.Post,
+  current-kind-reads.Asked,
+  current-kind-reads.Learnt,
+  bin-op-reads.Asked,
+  bin-op-reads.Learnt,
+  op-below t,
+  op.Post,
+) (prec-at t) prec.Post prec-Inv-loop prec-μ-loop
+prec-enum-told-2 t c = c .match2 .keys2
+
+prec-same-length-4 : (t : ℕ) → prec-lts.Need-same-length-4 (
+  start-range-reads.Asked,
+  start-range-reads.Learnt,
+  unary-below t,
+  unary.Post,
+  current-kind-reads.Asked,
+  current-kind-reads.Learnt,
+  bin-op-reads.Asked,
+  bin-op-reads.Learnt,
+  op-below t,
+  op.Post,
+) (prec-at t) prec.Post prec-Inv-loop prec-μ-loop
+prec-same-length-4 t c = (c .before .before .before .before .before .before .before .before .before .before .before .before .before .unary .kept .1 .1 .0)
+
+prec-same-length-5 : (t : ℕ) → prec-lts.Need-same-length-5 (
+  start-range-reads.Asked,
+  start-range-reads.Learnt,
+  unary-below t,
+  unary.Post,
+  current-kind-reads.Asked,
+  current-kind-reads.Learnt,
+  bin-op-reads.Asked,
+  bin-op-reads.Learnt,
+  op-below t,
+  op.Post,
+) (prec-at t) prec.Post prec-Inv-loop prec-μ-loop
+prec-same-length-5 t c = (c .before .before .before .before .before .before .before .before .before .before .before .before .before .unary .kept .1 .1 .1 .0)
+
+prec-same-length-6 : (t : ℕ) → prec-lts.Need-same-length-6 (
+  start-range-reads.Asked,
+  start-range-reads.Learnt,
+  unary-below t,
+  unary.Post,
+  current-kind-reads.Asked,
+  current-kind-reads.Learnt,
+  bin-op-reads.Asked,
+  bin-op-reads.Learnt,
+  op-below t,
+  op.Post,
+) (prec-at t) prec.Post prec-Inv-loop prec-μ-loop
+prec-same-length-6 t c = (c .before .before .before .before .before .before .before .before .before .before .before .before .before .unary .kept .1 .1 .1 .1 .0)
+
+prec-returns-3 : (t : ℕ) → prec-lts.Need-returns-3 (
+  start-range-reads.Asked,
+  start-range-reads.Learnt,
+  unary-below t,
+  unary.Post,
+  current-kind-reads.Asked,
+  current-kind-reads.Learnt,
+  bin-op-reads.Asked,
+  bin-op-reads.Learnt,
+  op-below t,
+  op.Post,
+) (prec-at t) prec.Post prec-Inv-loop prec-μ-loop
+prec-returns-3 t c = let c₁ = c .before .before in let c₂ = c₁ .before in let c₃ = c₂ .before .before in let c₄ = c₃ .before .before .before .before .before .before .before .before in let c₅ = c₄ .before .before .before .before .before in let c₆ = c₅ .before .before in sym (lv.prec-begin _ _ _ _ _ (c₅ .start-range .ensures) _ (c₆ .if1 .left) (via asParsed (c₄ .unary .ensures) (c₃ .read .given .1)) ∙ turning.loop-stop _ _ (pc.infix-none _ _ _ _ _ _ _ (c₂ .current-kind .ensures) (sym (c₁ .bin-op .ensures) ∙ c .enum-told2 .given .1)))
 
 prec-loop-holds : (t : ℕ) → prec-lts.Need-loop-holds (
   start-range-reads.Asked,
   start-range-reads.Learnt,
   unary-below t,
   unary.Post,
+  current-kind-reads.Asked,
+  current-kind-reads.Learnt,
+  bin-op-reads.Asked,
+  bin-op-reads.Learnt,
   op-below t,
   op.Post,
 ) (prec-at t) prec.Post prec-Inv-loop prec-μ-loop
@@ -15830,26 +15991,38 @@ prec-op-requires : (t : ℕ) → prec-lts.Need-op-requires (
   start-range-reads.Learnt,
   unary-below t,
   unary.Post,
+  current-kind-reads.Asked,
+  current-kind-reads.Learnt,
+  bin-op-reads.Asked,
+  bin-op-reads.Learnt,
   op-below t,
   op.Post,
 ) (prec-at t) prec.Post prec-Inv-loop prec-μ-loop
-prec-op-requires t c κs = (omega (arith, c .before .before .before .before .before .before .before .before .before .before .before .before .before .before .before .before .before .before .before .before .before .before .before .before .before .before .before .pre .0), tt)
+prec-op-requires t c κs = (omega (arith, c .before .before .before .before .before .before .before .before .before .before .before .before .before .before .before .before .before .before .before .before .before .before .before .before .before .before .before .before .before .before .before .pre .0), tt)
 
 prec-enum-known-turned : (t : ℕ) → prec-lts.Need-enum-known-turned (
   start-range-reads.Asked,
   start-range-reads.Learnt,
   unary-below t,
   unary.Post,
+  current-kind-reads.Asked,
+  current-kind-reads.Learnt,
+  bin-op-reads.Asked,
+  bin-op-reads.Learnt,
   op-below t,
   op.Post,
 ) (prec-at t) prec.Post prec-Inv-loop prec-μ-loop
-prec-enum-known-turned t c = c .match2 .keys1
+prec-enum-known-turned t c = c .match3 .keys1
 
 prec-loop-less : (t : ℕ) → prec-lts.Need-loop-less (
   start-range-reads.Asked,
   start-range-reads.Learnt,
   unary-below t,
   unary.Post,
+  current-kind-reads.Asked,
+  current-kind-reads.Learnt,
+  bin-op-reads.Asked,
+  bin-op-reads.Learnt,
   op-below t,
   op.Post,
 ) (prec-at t) prec.Post prec-Inv-loop prec-μ-loop
@@ -15860,6 +16033,10 @@ prec-loop-again : (t : ℕ) → prec-lts.Need-loop-again (
   start-range-reads.Learnt,
   unary-below t,
   unary.Post,
+  current-kind-reads.Asked,
+  current-kind-reads.Learnt,
+  bin-op-reads.Asked,
+  bin-op-reads.Learnt,
   op-below t,
   op.Post,
 ) (prec-at t) prec.Post prec-Inv-loop prec-μ-loop
@@ -15870,100 +16047,140 @@ prec-enum-known-turned-2 : (t : ℕ) → prec-lts.Need-enum-known-turned-2 (
   start-range-reads.Learnt,
   unary-below t,
   unary.Post,
+  current-kind-reads.Asked,
+  current-kind-reads.Learnt,
+  bin-op-reads.Asked,
+  bin-op-reads.Learnt,
   op-below t,
   op.Post,
 ) (prec-at t) prec.Post prec-Inv-loop prec-μ-loop
-prec-enum-known-turned-2 t c = c .match2 .keys2
-
-prec-same-length-4 : (t : ℕ) → prec-lts.Need-same-length-4 (
-  start-range-reads.Asked,
-  start-range-reads.Learnt,
-  unary-below t,
-  unary.Post,
-  op-below t,
-  op.Post,
-) (prec-at t) prec.Post prec-Inv-loop prec-μ-loop
-prec-same-length-4 t c = let c₁ = c .before .before .before .before .before .before .before .before .before in let c₂ = c₁ .before .before .before .before .before in let c₃ = c₂ .before .before .before .before .before .before .before .before .before .before in (c₁ .op .kept .1 .1 .0) ∙ (c₂ .loop .inv .1) ∙ (c₃ .unary .kept .1 .1 .0)
-
-prec-same-length-5 : (t : ℕ) → prec-lts.Need-same-length-5 (
-  start-range-reads.Asked,
-  start-range-reads.Learnt,
-  unary-below t,
-  unary.Post,
-  op-below t,
-  op.Post,
-) (prec-at t) prec.Post prec-Inv-loop prec-μ-loop
-prec-same-length-5 t c = let c₁ = c .before .before .before .before .before .before .before .before .before in let c₂ = c₁ .before .before .before .before .before in let c₃ = c₂ .before .before .before .before .before .before .before .before .before .before in (c₁ .op .kept .1 .1 .1 .0) ∙ (c₂ .loop .inv .2) ∙ (c₃ .unary .kept .1 .1 .1 .0)
-
-prec-same-length-6 : (t : ℕ) → prec-lts.Need-same-length-6 (
-  start-range-reads.Asked,
-  start-range-reads.Learnt,
-  unary-below t,
-  unary.Post,
-  op-below t,
-  op.Post,
-) (prec-at t) prec.Post prec-Inv-loop prec-μ-loop
-prec-same-length-6 t c = let c₁ = c .before .before .before .before .before .before .before .before .before in let c₂ = c₁ .before .before .before .before .before in let c₃ = c₂ .before .before .before .before .before .before .before .before .before .before in (c₁ .op .kept .1 .1 .1 .1 .0) ∙ (c₂ .loop .inv .3) ∙ (c₃ .unary .kept .1 .1 .1 .1 .0)
-
-prec-returns-3 : (t : ℕ) → prec-lts.Need-returns-3 (
-  start-range-reads.Asked,
-  start-range-reads.Learnt,
-  unary-below t,
-  unary.Post,
-  op-below t,
-  op.Post,
-) (prec-at t) prec.Post prec-Inv-loop prec-μ-loop
-prec-returns-3 t c = let c₁ = c .before in let c₂ = c₁ .before .before .before .before .before .before .before .before in let c₃ = c₂ .before .before .before .before .before in let c₄ = c₃ .before .before in let c₅ = c₄ .before .before .before .before .before .before .before .before in let c₆ = c₅ .before .before .before .before .before in let c₇ = c₆ .before .before in sym (lv.prec-begin _ _ _ _ _ (c₆ .start-range .ensures) _ (c₇ .if1 .left) (via asParsed (c₅ .unary .ensures) (c₄ .read .given .1)) ∙ c₃ .loop .inv .0 ∙ turning.loop-stop _ _ (via asChained (c₂ .op .ensures) (c₁ .turned2 .given .1)))
-
-prec-enum-known-turned-3 : (t : ℕ) → prec-lts.Need-enum-known-turned-3 (
-  start-range-reads.Asked,
-  start-range-reads.Learnt,
-  unary-below t,
-  unary.Post,
-  op-below t,
-  op.Post,
-) (prec-at t) prec.Post prec-Inv-loop prec-μ-loop
-prec-enum-known-turned-3 t c = c .match2 .keys3
+prec-enum-known-turned-2 t c = c .match3 .keys2
 
 prec-same-length-7 : (t : ℕ) → prec-lts.Need-same-length-7 (
   start-range-reads.Asked,
   start-range-reads.Learnt,
   unary-below t,
   unary.Post,
+  current-kind-reads.Asked,
+  current-kind-reads.Learnt,
+  bin-op-reads.Asked,
+  bin-op-reads.Learnt,
   op-below t,
   op.Post,
 ) (prec-at t) prec.Post prec-Inv-loop prec-μ-loop
-prec-same-length-7 t c = let c₁ = c .before .before .before .before .before .before .before .before .before in let c₂ = c₁ .before .before .before .before .before in let c₃ = c₂ .before .before .before .before .before .before .before .before .before .before in (c₁ .op .kept .1 .1 .0) ∙ (c₂ .loop .inv .1) ∙ (c₃ .unary .kept .1 .1 .0)
+prec-same-length-7 t c = let c₁ = c .before .before .before .before .before .before .before .before .before in let c₂ = c₁ .before .before .before .before .before in let c₃ = c₂ .before .before .before .before .before .before .before .before .before .before .before .before .before .before in (c₁ .op .kept .1 .1 .0) ∙ (c₂ .loop .inv .1) ∙ (c₃ .unary .kept .1 .1 .0)
 
 prec-same-length-8 : (t : ℕ) → prec-lts.Need-same-length-8 (
   start-range-reads.Asked,
   start-range-reads.Learnt,
   unary-below t,
   unary.Post,
+  current-kind-reads.Asked,
+  current-kind-reads.Learnt,
+  bin-op-reads.Asked,
+  bin-op-reads.Learnt,
   op-below t,
   op.Post,
 ) (prec-at t) prec.Post prec-Inv-loop prec-μ-loop
-prec-same-length-8 t c = let c₁ = c .before .before .before .before .before .before .before .before .before in let c₂ = c₁ .before .before .before .before .before in let c₃ = c₂ .before .before .before .before .before .before .before .before .before .before in (c₁ .op .kept .1 .1 .1 .0) ∙ (c₂ .loop .inv .2) ∙ (c₃ .unary .kept .1 .1 .1 .0)
+prec-same-length-8 t c = let c₁ = c .before .before .before .before .before .before .before .before .before in let c₂ = c₁ .before .before .before .before .before in let c₃ = c₂ .before .before .before .before .before .before .before .before .before .before .before .before .before .before in (c₁ .op .kept .1 .1 .1 .0) ∙ (c₂ .loop .inv .2) ∙ (c₃ .unary .kept .1 .1 .1 .0)
 
 prec-same-length-9 : (t : ℕ) → prec-lts.Need-same-length-9 (
   start-range-reads.Asked,
   start-range-reads.Learnt,
   unary-below t,
   unary.Post,
+  current-kind-reads.Asked,
+  current-kind-reads.Learnt,
+  bin-op-reads.Asked,
+  bin-op-reads.Learnt,
   op-below t,
   op.Post,
 ) (prec-at t) prec.Post prec-Inv-loop prec-μ-loop
-prec-same-length-9 t c = let c₁ = c .before .before .before .before .before .before .before .before .before in let c₂ = c₁ .before .before .before .before .before in let c₃ = c₂ .before .before .before .before .before .before .before .before .before .before in (c₁ .op .kept .1 .1 .1 .1 .0) ∙ (c₂ .loop .inv .3) ∙ (c₃ .unary .kept .1 .1 .1 .1 .0)
+prec-same-length-9 t c = let c₁ = c .before .before .before .before .before .before .before .before .before in let c₂ = c₁ .before .before .before .before .before in let c₃ = c₂ .before .before .before .before .before .before .before .before .before .before .before .before .before .before in (c₁ .op .kept .1 .1 .1 .1 .0) ∙ (c₂ .loop .inv .3) ∙ (c₃ .unary .kept .1 .1 .1 .1 .0)
 
 prec-returns-4 : (t : ℕ) → prec-lts.Need-returns-4 (
   start-range-reads.Asked,
   start-range-reads.Learnt,
   unary-below t,
   unary.Post,
+  current-kind-reads.Asked,
+  current-kind-reads.Learnt,
+  bin-op-reads.Asked,
+  bin-op-reads.Learnt,
   op-below t,
   op.Post,
 ) (prec-at t) prec.Post prec-Inv-loop prec-μ-loop
-prec-returns-4 t c = let c₁ = c .before in let c₂ = c₁ .before .before .before .before .before .before .before .before in let c₃ = c₂ .before .before .before .before .before in let c₄ = c₃ .before .before in let c₅ = c₄ .before .before .before .before .before .before .before .before in let c₆ = c₅ .before .before .before .before .before in let c₇ = c₆ .before .before in sym (lv.prec-begin _ _ _ _ _ (c₆ .start-range .ensures) _ (c₇ .if1 .left) (via asParsed (c₅ .unary .ensures) (c₄ .read .given .1)) ∙ c₃ .loop .inv .0 ∙ turning.loop-failed _ _ (via asChained (c₂ .op .ensures) (c₁ .turned3 .given .1)))
+prec-returns-4 t c = let c₁ = c .before in let c₂ = c₁ .before .before .before .before .before .before .before .before in let c₃ = c₂ .before .before .before .before .before in let c₄ = c₃ .before .before .before .before .before .before in let c₅ = c₄ .before .before .before .before .before .before .before .before in let c₆ = c₅ .before .before .before .before .before in let c₇ = c₆ .before .before in sym (lv.prec-begin _ _ _ _ _ (c₆ .start-range .ensures) _ (c₇ .if1 .left) (via asParsed (c₅ .unary .ensures) (c₄ .read .given .1)) ∙ c₃ .loop .inv .0 ∙ turning.loop-stop _ _ (via asChained (c₂ .op .ensures) (c₁ .turned2 .given .1)))
+
+prec-enum-known-turned-3 : (t : ℕ) → prec-lts.Need-enum-known-turned-3 (
+  start-range-reads.Asked,
+  start-range-reads.Learnt,
+  unary-below t,
+  unary.Post,
+  current-kind-reads.Asked,
+  current-kind-reads.Learnt,
+  bin-op-reads.Asked,
+  bin-op-reads.Learnt,
+  op-below t,
+  op.Post,
+) (prec-at t) prec.Post prec-Inv-loop prec-μ-loop
+prec-enum-known-turned-3 t c = c .match3 .keys3
+
+prec-same-length-10 : (t : ℕ) → prec-lts.Need-same-length-10 (
+  start-range-reads.Asked,
+  start-range-reads.Learnt,
+  unary-below t,
+  unary.Post,
+  current-kind-reads.Asked,
+  current-kind-reads.Learnt,
+  bin-op-reads.Asked,
+  bin-op-reads.Learnt,
+  op-below t,
+  op.Post,
+) (prec-at t) prec.Post prec-Inv-loop prec-μ-loop
+prec-same-length-10 t c = let c₁ = c .before .before .before .before .before .before .before .before .before in let c₂ = c₁ .before .before .before .before .before in let c₃ = c₂ .before .before .before .before .before .before .before .before .before .before .before .before .before .before in (c₁ .op .kept .1 .1 .0) ∙ (c₂ .loop .inv .1) ∙ (c₃ .unary .kept .1 .1 .0)
+
+prec-same-length-11 : (t : ℕ) → prec-lts.Need-same-length-11 (
+  start-range-reads.Asked,
+  start-range-reads.Learnt,
+  unary-below t,
+  unary.Post,
+  current-kind-reads.Asked,
+  current-kind-reads.Learnt,
+  bin-op-reads.Asked,
+  bin-op-reads.Learnt,
+  op-below t,
+  op.Post,
+) (prec-at t) prec.Post prec-Inv-loop prec-μ-loop
+prec-same-length-11 t c = let c₁ = c .before .before .before .before .before .before .before .before .before in let c₂ = c₁ .before .before .before .before .before in let c₃ = c₂ .before .before .before .before .before .before .before .before .before .before .before .before .before .before in (c₁ .op .kept .1 .1 .1 .0) ∙ (c₂ .loop .inv .2) ∙ (c₃ .unary .kept .1 .1 .1 .0)
+
+prec-same-length-12 : (t : ℕ) → prec-lts.Need-same-length-12 (
+  start-range-reads.Asked,
+  start-range-reads.Learnt,
+  unary-below t,
+  unary.Post,
+  current-kind-reads.Asked,
+  current-kind-reads.Learnt,
+  bin-op-reads.Asked,
+  bin-op-reads.Learnt,
+  op-below t,
+  op.Post,
+) (prec-at t) prec.Post prec-Inv-loop prec-μ-loop
+prec-same-length-12 t c = let c₁ = c .before .before .before .before .before .before .before .before .before in let c₂ = c₁ .before .before .before .before .before in let c₃ = c₂ .before .before .before .before .before .before .before .before .before .before .before .before .before .before in (c₁ .op .kept .1 .1 .1 .1 .0) ∙ (c₂ .loop .inv .3) ∙ (c₃ .unary .kept .1 .1 .1 .1 .0)
+
+prec-returns-5 : (t : ℕ) → prec-lts.Need-returns-5 (
+  start-range-reads.Asked,
+  start-range-reads.Learnt,
+  unary-below t,
+  unary.Post,
+  current-kind-reads.Asked,
+  current-kind-reads.Learnt,
+  bin-op-reads.Asked,
+  bin-op-reads.Learnt,
+  op-below t,
+  op.Post,
+) (prec-at t) prec.Post prec-Inv-loop prec-μ-loop
+prec-returns-5 t c = let c₁ = c .before in let c₂ = c₁ .before .before .before .before .before .before .before .before in let c₃ = c₂ .before .before .before .before .before in let c₄ = c₃ .before .before .before .before .before .before in let c₅ = c₄ .before .before .before .before .before .before .before .before in let c₆ = c₅ .before .before .before .before .before in let c₇ = c₆ .before .before in sym (lv.prec-begin _ _ _ _ _ (c₆ .start-range .ensures) _ (c₇ .if1 .left) (via asParsed (c₅ .unary .ensures) (c₄ .read .given .1)) ∙ c₃ .loop .inv .0 ∙ turning.loop-failed _ _ (via asChained (c₂ .op .ensures) (c₁ .turned3 .given .1)))
 
 abbrev prim-Inv-loop : prim-lts.InvT-loop
 prim-Inv-loop text tokens nodes₀ errors₀ wanted₀ live₀ left lambda from t₀ x₀ nodes errors wanted live t x = (iterate (sheet text tokens (left .limits)) (postfixTurn (under text tokens left) from lambda) x₀ t₀ (world nodes₀ errors₀ wanted₀ live₀) ≡ iterate (sheet text tokens (left .limits)) (postfixTurn (under text tokens left) from lambda) x t (world nodes errors wanted live)) × (length nodes ≡ length nodes₀) × (length errors ≡ length errors₀) × (length wanted ≡ length wanted₀)
@@ -15976,6 +16193,12 @@ prim-start-range-requires : (t : ℕ) → prim-lts.Need-start-range-requires (
   start-range-reads.Learnt,
   atom-below t,
   atom.Post,
+  current-kind-reads.Asked,
+  current-kind-reads.Learnt,
+  is-suffix-reads.Asked,
+  is-suffix-reads.Learnt,
+  no-suffix-reads.Asked,
+  no-suffix-reads.Learnt,
   post-below t,
   post.Post,
 ) (prim-at t) prim.Post prim-Inv-loop prim-μ-loop
@@ -15986,6 +16209,12 @@ prim-atom-requires : (t : ℕ) → prim-lts.Need-atom-requires (
   start-range-reads.Learnt,
   atom-below t,
   atom.Post,
+  current-kind-reads.Asked,
+  current-kind-reads.Learnt,
+  is-suffix-reads.Asked,
+  is-suffix-reads.Learnt,
+  no-suffix-reads.Asked,
+  no-suffix-reads.Learnt,
   post-below t,
   post.Post,
 ) (prim-at t) prim.Post prim-Inv-loop prim-μ-loop
@@ -15996,6 +16225,12 @@ prim-enum-known-read : (t : ℕ) → prim-lts.Need-enum-known-read (
   start-range-reads.Learnt,
   atom-below t,
   atom.Post,
+  current-kind-reads.Asked,
+  current-kind-reads.Learnt,
+  is-suffix-reads.Asked,
+  is-suffix-reads.Learnt,
+  no-suffix-reads.Asked,
+  no-suffix-reads.Learnt,
   post-below t,
   post.Post,
 ) (prim-at t) prim.Post prim-Inv-loop prim-μ-loop
@@ -16006,6 +16241,12 @@ prim-enum-known-read-2 : (t : ℕ) → prim-lts.Need-enum-known-read-2 (
   start-range-reads.Learnt,
   atom-below t,
   atom.Post,
+  current-kind-reads.Asked,
+  current-kind-reads.Learnt,
+  is-suffix-reads.Asked,
+  is-suffix-reads.Learnt,
+  no-suffix-reads.Asked,
+  no-suffix-reads.Learnt,
   post-below t,
   post.Post,
 ) (prim-at t) prim.Post prim-Inv-loop prim-μ-loop
@@ -16016,6 +16257,12 @@ prim-same-length : (t : ℕ) → prim-lts.Need-same-length (
   start-range-reads.Learnt,
   atom-below t,
   atom.Post,
+  current-kind-reads.Asked,
+  current-kind-reads.Learnt,
+  is-suffix-reads.Asked,
+  is-suffix-reads.Learnt,
+  no-suffix-reads.Asked,
+  no-suffix-reads.Learnt,
   post-below t,
   post.Post,
 ) (prim-at t) prim.Post prim-Inv-loop prim-μ-loop
@@ -16026,6 +16273,12 @@ prim-same-length-2 : (t : ℕ) → prim-lts.Need-same-length-2 (
   start-range-reads.Learnt,
   atom-below t,
   atom.Post,
+  current-kind-reads.Asked,
+  current-kind-reads.Learnt,
+  is-suffix-reads.Asked,
+  is-suffix-reads.Learnt,
+  no-suffix-reads.Asked,
+  no-suffix-reads.Learnt,
   post-below t,
   post.Post,
 ) (prim-at t) prim.Post prim-Inv-loop prim-μ-loop
@@ -16036,6 +16289,12 @@ prim-same-length-3 : (t : ℕ) → prim-lts.Need-same-length-3 (
   start-range-reads.Learnt,
   atom-below t,
   atom.Post,
+  current-kind-reads.Asked,
+  current-kind-reads.Learnt,
+  is-suffix-reads.Asked,
+  is-suffix-reads.Learnt,
+  no-suffix-reads.Asked,
+  no-suffix-reads.Learnt,
   post-below t,
   post.Post,
 ) (prim-at t) prim.Post prim-Inv-loop prim-μ-loop
@@ -16046,16 +16305,140 @@ prim-returns : (t : ℕ) → prim-lts.Need-returns (
   start-range-reads.Learnt,
   atom-below t,
   atom.Post,
+  current-kind-reads.Asked,
+  current-kind-reads.Learnt,
+  is-suffix-reads.Asked,
+  is-suffix-reads.Learnt,
+  no-suffix-reads.Asked,
+  no-suffix-reads.Learnt,
   post-below t,
   post.Post,
 ) (prim-at t) prim.Post prim-Inv-loop prim-μ-loop
 prim-returns t c = let c₁ = c .before in let c₂ = c₁ .before .before .before .before .before .before .before .before in let c₃ = c₂ .before .before .before .before .before in sym (ao.primary-failed _ _ _ (c₃ .start-range .ensures) _ (via asParsed (c₂ .atom .ensures) (c₁ .read2 .given .1)))
+
+prim-current-kind-requires : (t : ℕ) → prim-lts.Need-current-kind-requires (
+  start-range-reads.Asked,
+  start-range-reads.Learnt,
+  atom-below t,
+  atom.Post,
+  current-kind-reads.Asked,
+  current-kind-reads.Learnt,
+  is-suffix-reads.Asked,
+  is-suffix-reads.Learnt,
+  no-suffix-reads.Asked,
+  no-suffix-reads.Learnt,
+  post-below t,
+  post.Post,
+) (prim-at t) prim.Post prim-Inv-loop prim-μ-loop
+prim-current-kind-requires t c κs = tt
+
+prim-is-suffix-requires : (t : ℕ) → prim-lts.Need-is-suffix-requires (
+  start-range-reads.Asked,
+  start-range-reads.Learnt,
+  atom-below t,
+  atom.Post,
+  current-kind-reads.Asked,
+  current-kind-reads.Learnt,
+  is-suffix-reads.Asked,
+  is-suffix-reads.Learnt,
+  no-suffix-reads.Asked,
+  no-suffix-reads.Learnt,
+  post-below t,
+  post.Post,
+) (prim-at t) prim.Post prim-Inv-loop prim-μ-loop
+prim-is-suffix-requires t c κs = tt
+
+prim-no-suffix-requires : (t : ℕ) → prim-lts.Need-no-suffix-requires (
+  start-range-reads.Asked,
+  start-range-reads.Learnt,
+  atom-below t,
+  atom.Post,
+  current-kind-reads.Asked,
+  current-kind-reads.Learnt,
+  is-suffix-reads.Asked,
+  is-suffix-reads.Learnt,
+  no-suffix-reads.Asked,
+  no-suffix-reads.Learnt,
+  post-below t,
+  post.Post,
+) (prim-at t) prim.Post prim-Inv-loop prim-μ-loop
+prim-no-suffix-requires t c κs = tt
+
+prim-same-length-4 : (t : ℕ) → prim-lts.Need-same-length-4 (
+  start-range-reads.Asked,
+  start-range-reads.Learnt,
+  atom-below t,
+  atom.Post,
+  current-kind-reads.Asked,
+  current-kind-reads.Learnt,
+  is-suffix-reads.Asked,
+  is-suffix-reads.Learnt,
+  no-suffix-reads.Asked,
+  no-suffix-reads.Learnt,
+  post-below t,
+  post.Post,
+) (prim-at t) prim.Post prim-Inv-loop prim-μ-loop
+prim-same-length-4 t c = (c .before .before .before .before .before .before .before .before .before .before .before .before .before .before .atom .kept .1 .1 .0)
+
+prim-same-length-5 : (t : ℕ) → prim-lts.Need-same-length-5 (
+  start-range-reads.Asked,
+  start-range-reads.Learnt,
+  atom-below t,
+  atom.Post,
+  current-kind-reads.Asked,
+  current-kind-reads.Learnt,
+  is-suffix-reads.Asked,
+  is-suffix-reads.Learnt,
+  no-suffix-reads.Asked,
+  no-suffix-reads.Learnt,
+  post-below t,
+  post.Post,
+) (prim-at t) prim.Post prim-Inv-loop prim-μ-loop
+prim-same-length-5 t c = (c .before .before .before .before .before .before .before .before .before .before .before .before .before .before .atom .kept .1 .1 .1 .0)
+
+prim-same-length-6 : (t : ℕ) → prim-lts.Need-same-length-6 (
+  start-range-reads.Asked,
+  start-range-reads.Learnt,
+  atom-below t,
+  atom.Post,
+  current-kind-reads.Asked,
+  current-kind-reads.Learnt,
+  is-suffix-reads.Asked,
+  is-suffix-reads.Learnt,
+  no-suffix-reads.Asked,
+  no-suffix-reads.Learnt,
+  post-below t,
+  post.Post,
+) (prim-at t) prim.Post prim-Inv-loop prim-μ-loop
+prim-same-length-6 t c = (c .before .before .before .before .before .before .before .before .before .before .before .before .before .before .atom .kept .1 .1 .1 .1 .0)
+
+prim-returns-2 : (t : ℕ) → prim-lts.Need-returns-2 (
+  start-range-reads.Asked,
+  start-range-reads.Learnt,
+  atom-below t,
+  atom.Post,
+  current-kind-reads.Asked,
+  current-kind-reads.Learnt,
+  is-suffix-reads.Asked,
+  is-suffix-reads.Learnt,
+  no-suffix-reads.Asked,
+  no-suffix-reads.Learnt,
+  post-below t,
+  post.Post,
+) (prim-at t) prim.Post prim-Inv-loop prim-μ-loop
+prim-returns-2 t c = let c₁ = c .before .before in let c₂ = c₁ .before in let c₃ = c₂ .before in let c₄ = c₃ .before .before in let c₅ = c₄ .before .before .before .before .before .before .before .before in let c₆ = c₅ .before .before .before .before .before in c .no-suffix .ensures _ _ _ _ _ ∙ sf.unsuffixed _ _ _ _ _ _ (sym (ap isSuffix (c₃ .current-kind .ensures)) ∙ sym (c₂ .is-suffix .ensures) ∙ not-true _ (c₁ .if1 .taken)) ∙ sym (ao.primary-on _ _ _ (c₆ .start-range .ensures) _ (via asParsed (c₅ .atom .ensures) (c₄ .read .given .1)))
 
 prim-loop-holds : (t : ℕ) → prim-lts.Need-loop-holds (
   start-range-reads.Asked,
   start-range-reads.Learnt,
   atom-below t,
   atom.Post,
+  current-kind-reads.Asked,
+  current-kind-reads.Learnt,
+  is-suffix-reads.Asked,
+  is-suffix-reads.Learnt,
+  no-suffix-reads.Asked,
+  no-suffix-reads.Learnt,
   post-below t,
   post.Post,
 ) (prim-at t) prim.Post prim-Inv-loop prim-μ-loop
@@ -16066,16 +16449,28 @@ prim-post-requires : (t : ℕ) → prim-lts.Need-post-requires (
   start-range-reads.Learnt,
   atom-below t,
   atom.Post,
+  current-kind-reads.Asked,
+  current-kind-reads.Learnt,
+  is-suffix-reads.Asked,
+  is-suffix-reads.Learnt,
+  no-suffix-reads.Asked,
+  no-suffix-reads.Learnt,
   post-below t,
   post.Post,
 ) (prim-at t) prim.Post prim-Inv-loop prim-μ-loop
-prim-post-requires t c κs = (omega (arith, c .before .before .before .before .before .before .before .before .before .before .before .before .before .before .before .before .before .before .before .before .before .before .before .before .before .pre .0), tt)
+prim-post-requires t c κs = (omega (arith, c .before .before .before .before .before .before .before .before .before .before .before .before .before .before .before .before .before .before .before .before .before .before .before .before .before .before .before .before .pre .0), tt)
 
 prim-enum-known-turned : (t : ℕ) → prim-lts.Need-enum-known-turned (
   start-range-reads.Asked,
   start-range-reads.Learnt,
   atom-below t,
   atom.Post,
+  current-kind-reads.Asked,
+  current-kind-reads.Learnt,
+  is-suffix-reads.Asked,
+  is-suffix-reads.Learnt,
+  no-suffix-reads.Asked,
+  no-suffix-reads.Learnt,
   post-below t,
   post.Post,
 ) (prim-at t) prim.Post prim-Inv-loop prim-μ-loop
@@ -16086,6 +16481,12 @@ prim-loop-less : (t : ℕ) → prim-lts.Need-loop-less (
   start-range-reads.Learnt,
   atom-below t,
   atom.Post,
+  current-kind-reads.Asked,
+  current-kind-reads.Learnt,
+  is-suffix-reads.Asked,
+  is-suffix-reads.Learnt,
+  no-suffix-reads.Asked,
+  no-suffix-reads.Learnt,
   post-below t,
   post.Post,
 ) (prim-at t) prim.Post prim-Inv-loop prim-μ-loop
@@ -16096,6 +16497,12 @@ prim-loop-again : (t : ℕ) → prim-lts.Need-loop-again (
   start-range-reads.Learnt,
   atom-below t,
   atom.Post,
+  current-kind-reads.Asked,
+  current-kind-reads.Learnt,
+  is-suffix-reads.Asked,
+  is-suffix-reads.Learnt,
+  no-suffix-reads.Asked,
+  no-suffix-reads.Learnt,
   post-below t,
   post.Post,
 ) (prim-at t) prim.Post prim-Inv-loop prim-μ-loop
@@ -16106,100 +16513,160 @@ prim-enum-known-turned-2 : (t : ℕ) → prim-lts.Need-enum-known-turned-2 (
   start-range-reads.Learnt,
   atom-below t,
   atom.Post,
+  current-kind-reads.Asked,
+  current-kind-reads.Learnt,
+  is-suffix-reads.Asked,
+  is-suffix-reads.Learnt,
+  no-suffix-reads.Asked,
+  no-suffix-reads.Learnt,
   post-below t,
   post.Post,
 ) (prim-at t) prim.Post prim-Inv-loop prim-μ-loop
 prim-enum-known-turned-2 t c = c .match2 .keys2
-
-prim-same-length-4 : (t : ℕ) → prim-lts.Need-same-length-4 (
-  start-range-reads.Asked,
-  start-range-reads.Learnt,
-  atom-below t,
-  atom.Post,
-  post-below t,
-  post.Post,
-) (prim-at t) prim.Post prim-Inv-loop prim-μ-loop
-prim-same-length-4 t c = let c₁ = c .before .before .before .before .before .before .before .before .before in let c₂ = c₁ .before .before .before .before .before in let c₃ = c₂ .before .before .before .before .before .before .before .before .before .before in (c₁ .post .kept .1 .1 .0) ∙ (c₂ .loop .inv .1) ∙ (c₃ .atom .kept .1 .1 .0)
-
-prim-same-length-5 : (t : ℕ) → prim-lts.Need-same-length-5 (
-  start-range-reads.Asked,
-  start-range-reads.Learnt,
-  atom-below t,
-  atom.Post,
-  post-below t,
-  post.Post,
-) (prim-at t) prim.Post prim-Inv-loop prim-μ-loop
-prim-same-length-5 t c = let c₁ = c .before .before .before .before .before .before .before .before .before in let c₂ = c₁ .before .before .before .before .before in let c₃ = c₂ .before .before .before .before .before .before .before .before .before .before in (c₁ .post .kept .1 .1 .1 .0) ∙ (c₂ .loop .inv .2) ∙ (c₃ .atom .kept .1 .1 .1 .0)
-
-prim-same-length-6 : (t : ℕ) → prim-lts.Need-same-length-6 (
-  start-range-reads.Asked,
-  start-range-reads.Learnt,
-  atom-below t,
-  atom.Post,
-  post-below t,
-  post.Post,
-) (prim-at t) prim.Post prim-Inv-loop prim-μ-loop
-prim-same-length-6 t c = let c₁ = c .before .before .before .before .before .before .before .before .before in let c₂ = c₁ .before .before .before .before .before in let c₃ = c₂ .before .before .before .before .before .before .before .before .before .before in (c₁ .post .kept .1 .1 .1 .1 .0) ∙ (c₂ .loop .inv .3) ∙ (c₃ .atom .kept .1 .1 .1 .1 .0)
-
-prim-returns-2 : (t : ℕ) → prim-lts.Need-returns-2 (
-  start-range-reads.Asked,
-  start-range-reads.Learnt,
-  atom-below t,
-  atom.Post,
-  post-below t,
-  post.Post,
-) (prim-at t) prim.Post prim-Inv-loop prim-μ-loop
-prim-returns-2 t c = let c₁ = c .before in let c₂ = c₁ .before .before .before .before .before .before .before .before in let c₃ = c₂ .before .before .before .before .before in let c₄ = c₃ .before .before in let c₅ = c₄ .before .before .before .before .before .before .before .before in let c₆ = c₅ .before .before .before .before .before in sym (ao.primary-on _ _ _ (c₆ .start-range .ensures) _ (via asParsed (c₅ .atom .ensures) (c₄ .read .given .1)) ∙ c₃ .loop .inv .0 ∙ turning.loop-stop _ _ (via asChained (c₂ .post .ensures) (c₁ .turned2 .given .1)))
-
-prim-enum-known-turned-3 : (t : ℕ) → prim-lts.Need-enum-known-turned-3 (
-  start-range-reads.Asked,
-  start-range-reads.Learnt,
-  atom-below t,
-  atom.Post,
-  post-below t,
-  post.Post,
-) (prim-at t) prim.Post prim-Inv-loop prim-μ-loop
-prim-enum-known-turned-3 t c = c .match2 .keys3
 
 prim-same-length-7 : (t : ℕ) → prim-lts.Need-same-length-7 (
   start-range-reads.Asked,
   start-range-reads.Learnt,
   atom-below t,
   atom.Post,
+  current-kind-reads.Asked,
+  current-kind-reads.Learnt,
+  is-suffix-reads.Asked,
+  is-suffix-reads.Learnt,
+  no-suffix-reads.Asked,
+  no-suffix-reads.Learnt,
   post-below t,
   post.Post,
 ) (prim-at t) prim.Post prim-Inv-loop prim-μ-loop
-prim-same-length-7 t c = let c₁ = c .before .before .before .before .before .before .before .before .before in let c₂ = c₁ .before .before .before .before .before in let c₃ = c₂ .before .before .before .before .before .before .before .before .before .before in (c₁ .post .kept .1 .1 .0) ∙ (c₂ .loop .inv .1) ∙ (c₃ .atom .kept .1 .1 .0)
+prim-same-length-7 t c = let c₁ = c .before .before .before .before .before .before .before .before .before in let c₂ = c₁ .before .before .before .before .before in let c₃ = c₂ .before .before .before .before .before .before .before .before .before .before .before .before .before in (c₁ .post .kept .1 .1 .0) ∙ (c₂ .loop .inv .1) ∙ (c₃ .atom .kept .1 .1 .0)
 
 prim-same-length-8 : (t : ℕ) → prim-lts.Need-same-length-8 (
   start-range-reads.Asked,
   start-range-reads.Learnt,
   atom-below t,
   atom.Post,
+  current-kind-reads.Asked,
+  current-kind-reads.Learnt,
+  is-suffix-reads.Asked,
+  is-suffix-reads.Learnt,
+  no-suffix-reads.Asked,
+  no-suffix-reads.Learnt,
   post-below t,
   post.Post,
 ) (prim-at t) prim.Post prim-Inv-loop prim-μ-loop
-prim-same-length-8 t c = let c₁ = c .before .before .before .before .before .before .before .before .before in let c₂ = c₁ .before .before .before .before .before in let c₃ = c₂ .before .before .before .before .before .before .before .before .before .before in (c₁ .post .kept .1 .1 .1 .0) ∙ (c₂ .loop .inv .2) ∙ (c₃ .atom .kept .1 .1 .1 .0)
+prim-same-length-8 t c = let c₁ = c .before .before .before .before .before .before .before .before .before in let c₂ = c₁ .before .before .before .before .before in let c₃ = c₂ .before .before .before .before .before .before .before .before .before .before .before .before .before in (c₁ .post .kept .1 .1 .1 .0) ∙ (c₂ .loop .inv .2) ∙ (c₃ .atom .kept .1 .1 .1 .0)
 
 prim-same-length-9 : (t : ℕ) → prim-lts.Need-same-length-9 (
   start-range-reads.Asked,
   start-range-reads.Learnt,
   atom-below t,
   atom.Post,
+  current-kind-reads.Asked,
+  current-kind-reads.Learnt,
+  is-suffix-reads.Asked,
+  is-suffix-reads.Learnt,
+  no-suffix-reads.Asked,
+  no-suffix-reads.Learnt,
   post-below t,
   post.Post,
 ) (prim-at t) prim.Post prim-Inv-loop prim-μ-loop
-prim-same-length-9 t c = let c₁ = c .before .before .before .before .before .before .before .before .before in let c₂ = c₁ .before .before .before .before .before in let c₃ = c₂ .before .before .before .before .before .before .before .before .before .before in (c₁ .post .kept .1 .1 .1 .1 .0) ∙ (c₂ .loop .inv .3) ∙ (c₃ .atom .kept .1 .1 .1 .1 .0)
+prim-same-length-9 t c = let c₁ = c .before .before .before .before .before .before .before .before .before in let c₂ = c₁ .before .before .before .before .before in let c₃ = c₂ .before .before .before .before .before .before .before .before .before .before .before .before .before in (c₁ .post .kept .1 .1 .1 .1 .0) ∙ (c₂ .loop .inv .3) ∙ (c₃ .atom .kept .1 .1 .1 .1 .0)
 
 prim-returns-3 : (t : ℕ) → prim-lts.Need-returns-3 (
   start-range-reads.Asked,
   start-range-reads.Learnt,
   atom-below t,
   atom.Post,
+  current-kind-reads.Asked,
+  current-kind-reads.Learnt,
+  is-suffix-reads.Asked,
+  is-suffix-reads.Learnt,
+  no-suffix-reads.Asked,
+  no-suffix-reads.Learnt,
   post-below t,
   post.Post,
 ) (prim-at t) prim.Post prim-Inv-loop prim-μ-loop
-prim-returns-3 t c = let c₁ = c .before in let c₂ = c₁ .before .before .before .before .before .before .before .before in let c₃ = c₂ .before .before .before .before .before in let c₄ = c₃ .before .before in let c₅ = c₄ .before .before .before .before .before .before .before .before in let c₆ = c₅ .before .before .before .before .before in sym (ao.primary-on _ _ _ (c₆ .start-range .ensures) _ (via asParsed (c₅ .atom .ensures) (c₄ .read .given .1)) ∙ c₃ .loop .inv .0 ∙ turning.loop-failed _ _ (via asChained (c₂ .post .ensures) (c₁ .turned3 .given .1)))
+prim-returns-3 t c = let c₁ = c .before in let c₂ = c₁ .before .before .before .before .before .before .before .before in let c₃ = c₂ .before .before .before .before .before in let c₄ = c₃ .before .before .before .before .before in let c₅ = c₄ .before .before .before .before .before .before .before .before in let c₆ = c₅ .before .before .before .before .before in sym (ao.primary-on _ _ _ (c₆ .start-range .ensures) _ (via asParsed (c₅ .atom .ensures) (c₄ .read .given .1)) ∙ c₃ .loop .inv .0 ∙ turning.loop-stop _ _ (via asChained (c₂ .post .ensures) (c₁ .turned2 .given .1)))
+
+prim-enum-known-turned-3 : (t : ℕ) → prim-lts.Need-enum-known-turned-3 (
+  start-range-reads.Asked,
+  start-range-reads.Learnt,
+  atom-below t,
+  atom.Post,
+  current-kind-reads.Asked,
+  current-kind-reads.Learnt,
+  is-suffix-reads.Asked,
+  is-suffix-reads.Learnt,
+  no-suffix-reads.Asked,
+  no-suffix-reads.Learnt,
+  post-below t,
+  post.Post,
+) (prim-at t) prim.Post prim-Inv-loop prim-μ-loop
+prim-enum-known-turned-3 t c = c .match2 .keys3
+
+prim-same-length-10 : (t : ℕ) → prim-lts.Need-same-length-10 (
+  start-range-reads.Asked,
+  start-range-reads.Learnt,
+  atom-below t,
+  atom.Post,
+  current-kind-reads.Asked,
+  current-kind-reads.Learnt,
+  is-suffix-reads.Asked,
+  is-suffix-reads.Learnt,
+  no-suffix-reads.Asked,
+  no-suffix-reads.Learnt,
+  post-below t,
+  post.Post,
+) (prim-at t) prim.Post prim-Inv-loop prim-μ-loop
+prim-same-length-10 t c = let c₁ = c .before .before .before .before .before .before .before .before .before in let c₂ = c₁ .before .before .before .before .before in let c₃ = c₂ .before .before .before .before .before .before .before .before .before .before .before .before .before in (c₁ .post .kept .1 .1 .0) ∙ (c₂ .loop .inv .1) ∙ (c₃ .atom .kept .1 .1 .0)
+
+prim-same-length-11 : (t : ℕ) → prim-lts.Need-same-length-11 (
+  start-range-reads.Asked,
+  start-range-reads.Learnt,
+  atom-below t,
+  atom.Post,
+  current-kind-reads.Asked,
+  current-kind-reads.Learnt,
+  is-suffix-reads.Asked,
+  is-suffix-reads.Learnt,
+  no-suffix-reads.Asked,
+  no-suffix-reads.Learnt,
+  post-below t,
+  post.Post,
+) (prim-at t) prim.Post prim-Inv-loop prim-μ-loop
+prim-same-length-11 t c = let c₁ = c .before .before .before .before .before .before .before .before .before in let c₂ = c₁ .before .before .before .before .before in let c₃ = c₂ .before .before .before .before .before .before .before .before .before .before .before .before .before in (c₁ .post .kept .1 .1 .1 .0) ∙ (c₂ .loop .inv .2) ∙ (c₃ .atom .kept .1 .1 .1 .0)
+
+prim-same-length-12 : (t : ℕ) → prim-lts.Need-same-length-12 (
+  start-range-reads.Asked,
+  start-range-reads.Learnt,
+  atom-below t,
+  atom.Post,
+  current-kind-reads.Asked,
+  current-kind-reads.Learnt,
+  is-suffix-reads.Asked,
+  is-suffix-reads.Learnt,
+  no-suffix-reads.Asked,
+  no-suffix-reads.Learnt,
+  post-below t,
+  post.Post,
+) (prim-at t) prim.Post prim-Inv-loop prim-μ-loop
+prim-same-length-12 t c = let c₁ = c .before .before .before .before .before .before .before .before .before in let c₂ = c₁ .before .before .before .before .before in let c₃ = c₂ .before .before .before .before .before .before .before .before .before .before .before .before .before in (c₁ .post .kept .1 .1 .1 .1 .0) ∙ (c₂ .loop .inv .3) ∙ (c₃ .atom .kept .1 .1 .1 .1 .0)
+
+prim-returns-4 : (t : ℕ) → prim-lts.Need-returns-4 (
+  start-range-reads.Asked,
+  start-range-reads.Learnt,
+  atom-below t,
+  atom.Post,
+  current-kind-reads.Asked,
+  current-kind-reads.Learnt,
+  is-suffix-reads.Asked,
+  is-suffix-reads.Learnt,
+  no-suffix-reads.Asked,
+  no-suffix-reads.Learnt,
+  post-below t,
+  post.Post,
+) (prim-at t) prim.Post prim-Inv-loop prim-μ-loop
+prim-returns-4 t c = let c₁ = c .before in let c₂ = c₁ .before .before .before .before .before .before .before .before in let c₃ = c₂ .before .before .before .before .before in let c₄ = c₃ .before .before .before .before .before in let c₅ = c₄ .before .before .before .before .before .before .before .before in let c₆ = c₅ .before .before .before .before .before in sym (ao.primary-on _ _ _ (c₆ .start-range .ensures) _ (via asParsed (c₅ .atom .ensures) (c₄ .read .given .1)) ∙ c₃ .loop .inv .0 ∙ turning.loop-failed _ _ (via asChained (c₂ .post .ensures) (c₁ .turned3 .given .1)))
 
 rhs-expr-requires : (t : ℕ) → rhs-lts.Need-expr-requires (
   expr-below t,
@@ -21556,6 +22023,10 @@ pub +anon+arms+assign+atom+block+brace+call+case+catch+cond+def+each+expr+exprs+
       start-range-reads.Learnt,
       unary-below t,
       unary.Post,
+      current-kind-reads.Asked,
+      current-kind-reads.Learnt,
+      bin-op-reads.Asked,
+      bin-op-reads.Learnt,
       op-below t,
       op.Post,
     )
@@ -21564,7 +22035,7 @@ pub +anon+arms+assign+atom+block+brace+call+case+catch+cond+def+each+expr+exprs+
     prec-Inv-loop
     prec-μ-loop
     (prec-returns t)
-    (prec-sub-t29 t)
+    (prec-sub-bin-op t)
     (prec-start-range-requires t)
     (prec-unary-requires t)
     (prec-enum-known-read t)
@@ -21573,26 +22044,40 @@ pub +anon+arms+assign+atom+block+brace+call+case+catch+cond+def+each+expr+exprs+
     (prec-same-length-2 t)
     (prec-same-length-3 t)
     (prec-returns-2 t)
+    (prec-current-kind-requires t)
+    (prec-bin-op-requires t)
+    (prec-enum-told t)
+    (prec-enum-told-2 t)
+    (prec-same-length-4 t)
+    (prec-same-length-5 t)
+    (prec-same-length-6 t)
+    (prec-returns-3 t)
     (prec-loop-holds t)
     (prec-op-requires t)
     (prec-enum-known-turned t)
     (prec-loop-less t)
     (prec-loop-again t)
     (prec-enum-known-turned-2 t)
-    (prec-same-length-4 t)
-    (prec-same-length-5 t)
-    (prec-same-length-6 t)
-    (prec-returns-3 t)
-    (prec-enum-known-turned-3 t)
     (prec-same-length-7 t)
     (prec-same-length-8 t)
     (prec-same-length-9 t)
-    (prec-returns-4 t))
+    (prec-returns-4 t)
+    (prec-enum-known-turned-3 t)
+    (prec-same-length-10 t)
+    (prec-same-length-11 t)
+    (prec-same-length-12 t)
+    (prec-returns-5 t))
     (λ t. prim-lts.spec (
       start-range-reads.Asked,
       start-range-reads.Learnt,
       atom-below t,
       atom.Post,
+      current-kind-reads.Asked,
+      current-kind-reads.Learnt,
+      is-suffix-reads.Asked,
+      is-suffix-reads.Learnt,
+      no-suffix-reads.Asked,
+      no-suffix-reads.Learnt,
       post-below t,
       post.Post,
     )
@@ -21608,21 +22093,28 @@ pub +anon+arms+assign+atom+block+brace+call+case+catch+cond+def+each+expr+exprs+
     (prim-same-length-2 t)
     (prim-same-length-3 t)
     (prim-returns t)
+    (prim-current-kind-requires t)
+    (prim-is-suffix-requires t)
+    (prim-no-suffix-requires t)
+    (prim-same-length-4 t)
+    (prim-same-length-5 t)
+    (prim-same-length-6 t)
+    (prim-returns-2 t)
     (prim-loop-holds t)
     (prim-post-requires t)
     (prim-enum-known-turned t)
     (prim-loop-less t)
     (prim-loop-again t)
     (prim-enum-known-turned-2 t)
-    (prim-same-length-4 t)
-    (prim-same-length-5 t)
-    (prim-same-length-6 t)
-    (prim-returns-2 t)
-    (prim-enum-known-turned-3 t)
     (prim-same-length-7 t)
     (prim-same-length-8 t)
     (prim-same-length-9 t)
-    (prim-returns-3 t))
+    (prim-returns-3 t)
+    (prim-enum-known-turned-3 t)
+    (prim-same-length-10 t)
+    (prim-same-length-11 t)
+    (prim-same-length-12 t)
+    (prim-returns-4 t))
     (λ t. rhs-lts.spec
     (expr-below t, expr.Post, couple-reads.Asked, couple-reads.Learnt)
     (rhs-at t)
