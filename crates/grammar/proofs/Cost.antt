@@ -2,11 +2,16 @@
 -- made in vain. There are two: a key and its Colon are attempted behind a `{` that opens an expression, and a named function at a `fn` that
 -- opens a statement.
 use Prim.Native.Nat.{ℕ, _+_}
+use mathlib.Core.Path.{_≡_, refl}
 use mathlib.Core.List.{List, [], _∷_}
-use Rattle.grammar.specs.Places.{Token, Place, Tok}
+use mathlib.Core.Bool.{false}
+use lib.Dec.{eqb}
+use Rattle.kinds.specs.Number as kind
+use Rattle.grammar.specs.Places.{Token, Place, kindIn, kindOf, Tok, Not}
 use Rattle.grammar.specs.Symbols.{Sym}
 use Rattle.grammar.specs.Derives.{Derives}
 use Rattle.grammar.specs.Derives as by
+use Rattle.grammar.proofs.Tests.{at-token, elsewhere}
 
 -- one reading where there is a token, none at the end of input
 abbrev pub takenIn : List Token → ℕ
@@ -19,6 +24,18 @@ taken p = takenIn (p .rest)
 -- the same of a terminal
 abbrev pub spent : {k : ℕ} {p q : Place} → Tok k p q → ℕ
 spent {p = p} t = taken p
+
+-- which is one for each token that is no end of input
+pub one-taken : {p : Place} → Not kind.Eof p → taken p ≡ 1
+unfolding kindOf
+one-taken {p} h = go (p .rest) (h .differs)
+  where
+    go : (ts : List Token) → (kindIn ts ≡ kind.Eof → ⊥) → takenIn ts ≡ 1
+    go [] n = absurd (n refl)
+    go (t ∷ ts) n = refl
+
+pub one-spent : {k : ℕ} {p q : Place} (t : Tok k p q) → eqb k kind.Eof ≡ false → spent t ≡ 1
+one-spent t e = one-taken (elsewhere kind.Eof e (at-token t))
 
 -- all readings of a part; what a key reads in vain that is attempted at its front: a group with all that is in it, or a literal; and 1 where
 -- the `fn` of a function without a name stands at its front, which is read in vain where a statement begins

@@ -1,6 +1,6 @@
--- Sheets that follow the grammar: their derivations, and that the tree read off each is the one which the table of known outcomes has for it
--- (crates/known/specs/Known.antt; that crate is over the parser, so its trees are written out again here). At the end one that does not.
-use Prim.Native.Nat.{ℕ, suc, _*_, _≤_}
+-- Sheets of the table of known outcomes (crates/known/specs/Known.antt) that follow the grammar: their derivations. At the end one that does
+-- not.
+use Prim.Native.Nat.{ℕ, _≤_}
 use mathlib.Core.Path.{_≡_, refl, sym, _∙_}
 use mathlib.Core.List.{List, [], _∷_}
 use mathlib.Core.Bool.{true, false}
@@ -12,12 +12,9 @@ use Rattle.kinds.specs.Operators.{binaryOf, levelOf}
 use Rattle.kinds.specs.TypeWords.{typeWord}
 use Rattle.ints.specs.Spelling.{kept, radixBy, radixOf, afterPrefix, signBy, digitOf, valueOf}
 use Rattle.ints.specs.Answer.{judged, firstOf, numberOf, afterwards, fromStrRadix, intOf}
-use Rattle.cursor.specs.declared.Label.{Label}
-use Rattle.cursor.specs.Node as record-of
-use Rattle.cursor.specs.Tree.{Trees, none, node, tree, join, size}
 use Rattle.types.specs.Lits.{literal, intLiteral}
 use Rattle.parts.specs.Steps.{checkedType}
-use Rattle.grammar.specs.Places.{Place, kindOf, spanOf, after, Tok, Not, Free, tokensOf, significant, before, opening}
+use Rattle.grammar.specs.Places.{Place, kindOf, spanOf, after, Tok, Not, Free, tokensOf, significant, before}
 use Rattle.grammar.specs.Symbols.{Form, Other, Body, Stmts, Atom, Prec}
 use Rattle.grammar.specs.Derives.{
   signs,
@@ -57,32 +54,21 @@ use Rattle.grammar.specs.Derives.{
   property,
   group-key,
 }
-use Rattle.grammar.specs.Shape.{shape}
-use Rattle.grammar.specs.Follows.{Follows, treeOf}
-use Rattle.grammar.specs.Words.{among, range, tokenWords, ownWord, words}
-use Rattle.grammar.specs.Words as word
-use Rattle.grammar.specs.Marks.{again, marksAt, marks, readings}
+use Rattle.grammar.specs.Follows.{Follows}
+use Rattle.grammar.specs.Words.{among}
 use Rattle.grammar.proofs.Tests.{takes, other, free}
-use Rattle.grammar.proofs.Starts.{stmts, apart, starts}
-use Rattle.grammar.specs.Records.{records}
-use Rattle.grammar.specs.Depth.{need}
-
--- a record: its kind, start and end, two words and flags
-abbrev says : ℕ → ℕ → ℕ → ℕ → ℕ → ℕ → Label
-says k start end one two flags = record { kind = k; start = start; end = end; one = one; two = two; flags = flags }
-
-abbrev leaf : Label → Trees
-leaf l = tree l none
+use Rattle.grammar.proofs.FirstKinds.{stmts, apart}
+use Rattle.grammar.proofs.Starts.{starts}
 
 -- an atom with nothing behind it that could join it
-alone : {text : List ℕ} {n : ℕ} {f : Form} {p q : Place} → Derives text (Atom f) p q → Free openers q → Not kind.OpenBrace q → levelOf (kindOf q) ≤ n → Derives text (Prec n true f) p q
+unfoldable pub alone : {text : List ℕ} {n : ℕ} {f : Form} {p q : Place} → Derives text (Atom f) p q → Free openers q → Not kind.OpenBrace q → levelOf (kindOf q) ≤ n → Derives text (Prec n true f) p q
 alone d a b c = prec-of (no-unary (primary-of d (no-post a (no-brace b)))) (no-op c)
 
 -- a is int * b
-abbrev product-text : List ℕ
+abbrev pub product-text : List ℕ
 product-text = bytes "a is int * b"
 
-abbrev product-tokens : List ℕ
+abbrev pub product-tokens : List ℕ
 product-tokens =
     kind.Ident ∷ 0 ∷ 1
     ∷ kind.Whitespace ∷ 1 ∷ 2
@@ -96,7 +82,7 @@ product-tokens =
     ∷ []
 
 -- `is` stands above level 0 and its type word is no operand, so that the product's left side is the whole check
-product : Follows product-text product-tokens
+unfoldable pub product : Follows product-text product-tokens
 unfolding before tokensOf significant isTrivia kindOf spanOf after among levelOf binaryOf checkedType typeWord equal
 product = record {
   end = _;
@@ -108,16 +94,12 @@ product = record {
   whole = refl;
 }
 
-product-tree : treeOf product ≡ tree (says record-of.Program 0 12 0 0 1) (tree (says record-of.Binary 0 12 kind.Mul 0 0) (node (says record-of.TypeCheck 0 8 2 5 0) (leaf (says record-of.Ident 0 1 0 0 0)) (leaf (says record-of.Ident 11 12 0 0 0))))
-unfolding product alone shape treeOf before opening tokensOf significant isTrivia kindOf spanOf after join
-product-tree = refl
-
 -- {
 -- }
-abbrev braces : List ℕ
+abbrev pub braces : List ℕ
 braces = kind.OpenBrace ∷ 0 ∷ 1 ∷ kind.Eol ∷ 1 ∷ 2 ∷ kind.CloseBrace ∷ 2 ∷ 3 ∷ []
 
-empty-table : (text : List ℕ) → Follows text braces
+unfoldable pub empty-table : (text : List ℕ) → Follows text braces
 unfolding before tokensOf significant isTrivia kindOf after among levelOf binaryOf
 empty-table text = record {
   end = _;
@@ -127,16 +109,12 @@ empty-table text = record {
   whole = refl;
 }
 
-empty-table-tree : (text : List ℕ) → treeOf (empty-table text) ≡ tree (says record-of.Program 0 3 0 0 1) (leaf (says record-of.Table 0 3 0 0 0))
-unfolding empty-table alone shape treeOf before opening tokensOf significant isTrivia kindOf spanOf after join
-empty-table-tree text = refl
-
 -- {1}
-abbrev number-tokens : List ℕ
+abbrev pub number-tokens : List ℕ
 number-tokens = kind.OpenBrace ∷ 0 ∷ 1 ∷ kind.Int ∷ 1 ∷ 2 ∷ kind.CloseBrace ∷ 2 ∷ 3 ∷ []
 
 -- the 1 is no key, since no Colon follows it
-number-block : Follows (bytes "{1}") number-tokens
+unfoldable pub number-block : Follows (bytes "{1}") number-tokens
 unfolding before tokensOf significant isTrivia kindOf spanOf after among levelOf binaryOf literal intLiteral kept radixBy radixOf afterPrefix signBy digitOf valueOf judged firstOf numberOf afterwards fromStrRadix intOf
 number-block = record {
   end = _;
@@ -147,21 +125,13 @@ number-block = record {
   whole = refl;
 }
 
-number-block-tree : treeOf number-block ≡ tree (says record-of.Program 0 3 0 0 1) (tree (says record-of.ExprBlock 0 3 0 0 0) (tree (says record-of.Block 1 3 0 0 1) (leaf (says record-of.Int 1 2 1 0 0))))
-unfolding number-block alone shape treeOf before opening tokensOf significant isTrivia kindOf spanOf after join literal intLiteral kept radixBy radixOf afterPrefix signBy digitOf valueOf judged firstOf numberOf afterwards fromStrRadix intOf
-number-block-tree = refl
-
 -- the empty sheet
-nothing : (text : List ℕ) → Follows text []
+unfoldable pub nothing : (text : List ℕ) → Follows text []
 unfolding before tokensOf significant kindOf after
 nothing text = record { end = _; body = body-of (no-eol (other refl)) (no-stmt (takes refl refl)); whole = refl }
 
-nothing-tree : (text : List ℕ) → treeOf (nothing text) ≡ leaf (says record-of.Program 0 0 0 0 0)
-unfolding nothing shape treeOf before opening tokensOf significant after
-nothing-tree text = refl
-
 -- {({(x)})}
-abbrev nested-tokens : List ℕ
+abbrev pub nested-tokens : List ℕ
 nested-tokens =
     kind.OpenBrace ∷ 0 ∷ 1
     ∷ kind.OpenParen ∷ 1 ∷ 2
@@ -175,10 +145,10 @@ nested-tokens =
     ∷ []
 
 -- a block of one expression
-braced : {text : List ℕ} {f : Form} {p q r s : Place} → Tok kind.OpenBrace p q → Not kind.Eol q → Not kind.CloseBrace q → Derives text (Prec 0 true f) q r → Free signs r → Tok kind.CloseBrace r s → Derives text (Atom Other) p s
+unfoldable pub braced : {text : List ℕ} {f : Form} {p q r s : Place} → Tok kind.OpenBrace p q → Not kind.Eol q → Not kind.CloseBrace q → Derives text (Prec 0 true f) q r → Free signs r → Tok kind.CloseBrace r s → Derives text (Atom Other) p s
 braced a b c d e g = block-expr a (no-eol b) c (body-of (no-eol b) (last-stmt (plain d e) g))
 
-nested : (text : List ℕ) → Follows text nested-tokens
+unfoldable pub nested : (text : List ℕ) → Follows text nested-tokens
 unfolding before tokensOf significant isTrivia kindOf after among levelOf binaryOf
 nested text = record {
   end = _;
@@ -190,12 +160,8 @@ nested text = record {
   whole = refl;
 }
 
-nested-tree : (text : List ℕ) → treeOf (nested text) ≡ tree (says record-of.Program 0 9 0 0 1) (tree (says record-of.ExprBlock 0 9 0 0 0) (tree (says record-of.Block 1 9 0 0 1) (tree (says record-of.Paren 1 8 0 0 0) (tree (says record-of.ExprBlock 2 7 0 0 0) (tree (says record-of.Block 3 7 0 0 1) (tree (says record-of.Paren 3 6 0 0 0) (leaf (says record-of.Ident 4 5 0 0 0))))))))
-unfolding nested braced alone shape treeOf before opening tokensOf significant isTrivia kindOf spanOf after join
-nested-tree text = refl
-
 -- {(x): 1}
-abbrev key-tokens : List ℕ
+abbrev pub key-tokens : List ℕ
 key-tokens =
     kind.OpenBrace ∷ 0 ∷ 1
     ∷ kind.OpenParen ∷ 1 ∷ 2
@@ -208,7 +174,7 @@ key-tokens =
     ∷ []
 
 -- the key's record ends before the colon
-group-table : Follows (bytes "{(x): 1}") key-tokens
+unfoldable pub group-table : Follows (bytes "{(x): 1}") key-tokens
 unfolding before tokensOf significant isTrivia kindOf spanOf after among levelOf binaryOf literal intLiteral kept radixBy radixOf afterPrefix signBy digitOf valueOf judged firstOf numberOf afterwards fromStrRadix intOf
 group-table = record {
   end = _;
@@ -220,12 +186,8 @@ group-table = record {
   whole = refl;
 }
 
-group-table-tree : treeOf group-table ≡ tree (says record-of.Program 0 8 0 0 1) (tree (says record-of.Table 0 8 0 0 1) (tree (says record-of.TableProperty 1 7 0 0 0) (node (says record-of.Paren 1 4 0 0 0) (leaf (says record-of.Ident 2 3 0 0 0)) (leaf (says record-of.Int 6 7 1 0 0)))))
-unfolding group-table alone shape treeOf before opening tokensOf significant isTrivia kindOf spanOf after join literal intLiteral kept radixBy radixOf afterPrefix signBy digitOf valueOf judged firstOf numberOf afterwards fromStrRadix intOf
-group-table-tree = refl
-
 -- fn () {}
-abbrev function-tokens : List ℕ
+abbrev pub function-tokens : List ℕ
 function-tokens =
     kind.Fn ∷ 0 ∷ 2
     ∷ kind.Whitespace ∷ 2 ∷ 3
@@ -237,7 +199,7 @@ function-tokens =
     ∷ []
 
 -- a function's block is a block, though nothing stands in it
-nameless : (text : List ℕ) → Follows text function-tokens
+unfoldable pub nameless : (text : List ℕ) → Follows text function-tokens
 unfolding before tokensOf significant isTrivia kindOf after among levelOf binaryOf
 nameless text = record {
   end = _;
@@ -247,69 +209,6 @@ nameless text = record {
       (free refl)) (takes refl refl));
   whole = refl;
 }
-
-nameless-tree : (text : List ℕ) → treeOf (nameless text) ≡ tree (says record-of.Program 0 8 0 0 1) (tree (says record-of.Fn 0 8 0 0 0) (tree (says record-of.Function 0 8 0 0 0) (leaf (says record-of.Block 7 8 0 0 0))))
-unfolding nameless alone shape treeOf before opening tokensOf significant isTrivia kindOf spanOf after join
-nameless-tree text = refl
-
--- the words of a tree and of its tokens: the type word stands between the names
-product-words : words (treeOf product) ≡ range 0 1 ∷ range 5 8 ∷ range 11 12 ∷ []
-unfolding product alone shape treeOf before opening tokensOf significant isTrivia kindOf spanOf after join words ownWord word.typeWord among
-product-words = refl
-
-product-token-words : tokenWords (tokensOf product-tokens) ≡ range 0 1 ∷ range 5 8 ∷ range 11 12 ∷ []
-unfolding tokenWords tokensOf among
-product-token-words = refl
-
--- how often their tokens are read, by the marks: each sum is the one that the table of known outcomes has
-nothing-reads : (text : List ℕ) → readings (marks (nothing text .body)) ≡ 0
-unfolding nothing marksAt readings before tokensOf significant after
-nothing-reads text = refl
-
-product-reads : readings (marks (product .body)) ≡ 5
-unfolding product alone marksAt readings before tokensOf significant isTrivia after
-product-reads = refl
-
-empty-table-reads : (text : List ℕ) → readings (marks (empty-table text .body)) ≡ 3
-unfolding empty-table alone marksAt readings before tokensOf significant isTrivia after
-empty-table-reads text = refl
-
-number-block-reads : readings (marks (number-block .body)) ≡ 4
-unfolding number-block alone marksAt again readings before tokensOf significant isTrivia after
-number-block-reads = refl
-
-group-table-reads : readings (marks (group-table .body)) ≡ 7
-unfolding group-table alone marksAt readings before tokensOf significant isTrivia after
-group-table-reads = refl
-
-nested-marks : (text : List ℕ) → marks (nested text .body) ≡ 0 ∷ 1 ∷ 1 ∷ 2 ∷ 2 ∷ 2 ∷ 1 ∷ 1 ∷ 0 ∷ []
-unfolding nested braced alone marksAt again before tokensOf significant isTrivia after
-nested-marks text = refl
-
-nested-reads : (text : List ℕ) → readings (marks (nested text .body)) ≡ 22
-unfolding nested braced alone marksAt again readings before tokensOf significant isTrivia after
-nested-reads text = refl
-
-nameless-reads : (text : List ℕ) → readings (marks (nameless text .body)) ≡ 6
-unfolding nameless alone marksAt again readings before tokensOf significant isTrivia after
-nameless-reads text = refl
-
--- one record for the program and those of its statements are the records of the tree; the innermost name stands seven levels below the statements
-product-records : suc (records (product .body)) ≡ size (treeOf product)
-unfolding product alone records shape treeOf join size
-product-records = refl
-
-nested-records : (text : List ℕ) → suc (records (nested text .body)) ≡ size (treeOf (nested text))
-unfolding nested braced alone records shape treeOf join size
-nested-records text = refl
-
-nested-levels : (text : List ℕ) → need (nested text .body) ≡ 7
-unfolding nested braced alone need
-nested-levels text = refl
-
-nameless-records : (text : List ℕ) → suc (records (nameless text .body)) ≡ size (treeOf (nameless text))
-unfolding nameless alone records shape treeOf join size
-nameless-records text = refl
 
 -- a sheet that begins with a token which begins no statement does not follow the grammar; `)` is one
 module _ {text : List ℕ} {p q : Place} (k : ℕ) (here : kindOf p ≡ k) (not-end : k ≡ kind.Eof → ⊥) (none-starts : among k stmts ≡ false) where

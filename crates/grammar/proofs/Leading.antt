@@ -2,34 +2,23 @@
 -- is read, of a literal its token, and of anything else nothing; behind the two no Colon stands, so that no key is there.
 use Prim.Native.Nat.{ℕ, suc, _+_, _<_, _≤_}
 use mathlib.Core.Path.{_≡_, refl, sym, ap, _∙_, subst}
-use mathlib.Core.List.{List, [], _∷_}
+use mathlib.Core.List.{List}
 use mathlib.Core.Bool.{Bool, true, false}
 use native.Mathlib.Omega.{arith}
 use lib.Dec.{eqb}
 use Rattle.kinds.specs.Number as kind
-use Rattle.kinds.specs.Operators.{binaryOf, levelOf}
-use Rattle.grammar.specs.Places.{Token, Place, kindIn, kindOf, Tok, Here, Not, Free, from-all}
+use Rattle.kinds.specs.Operators.{levelOf}
+use Rattle.grammar.specs.Places.{Place, kindOf, Tok, Here, Not, Free, from-all}
 use Rattle.grammar.specs.Symbols.{Form, Name, NameMember, Call, Other, memberOf, Eols, Lit, Body, Stmts, Stmt, Lefts, Expr, Prec, Ops, Unary, Primary, Posts, Atom}
 use Rattle.grammar.specs.Derives.{Derives, Compound, signs}
 use Rattle.grammar.specs.Derives as by
 use Rattle.grammar.specs.Words.{among}
-use Rattle.grammar.proofs.Starts.{lits, starts, apart}
-use Rattle.grammar.proofs.Cost.{takenIn, taken, Costs, costs, cost, lead}
+use Rattle.grammar.proofs.Tests.{at-token, elsewhere, colon-level}
+use Rattle.grammar.proofs.FirstKinds.{lits, apart}
+use Rattle.grammar.proofs.Starts.{starts}
+use Rattle.grammar.proofs.Cost.{taken, Costs, costs, cost, lead, one-taken, one-spent}
 use Rattle.grammar.specs.Records.{records}
 use Rattle.grammar.specs.Depth.{need}
-use Rattle.grammar.proofs.MeetsValues.{elsewhere}
-
-pub at-token : {k : ℕ} {p q : Place} → Tok k p q → Here k p
-at-token t = record { stands = t .here }
-
--- a token that is no end of input is one reading
-pub one-taken : {p : Place} → Not kind.Eof p → taken p ≡ 1
-unfolding kindOf
-one-taken {p} h = go (p .rest) (h .differs)
-  where
-    go : (ts : List Token) → (kindIn ts ≡ kind.Eof → ⊥) → takenIn ts ≡ 1
-    go [] n = absurd (n refl)
-    go (t ∷ ts) n = refl
 
 -- every form but that of a plain name
 abbrev Unnamed : Form → Type 0
@@ -44,11 +33,6 @@ member-unnamed Name = tt
 member-unnamed NameMember = tt
 member-unnamed Call = tt
 member-unnamed Other = tt
-
--- a Colon is no operator
-no-level : levelOf kind.Colon ≡ 0
-unfolding levelOf binaryOf
-no-level = refl
 
 -- behind an expression that is a statement, and where another sign stands than a Colon
 signs-colon : {p : Place} → Free signs p → Not kind.Colon p
@@ -86,7 +70,7 @@ module _ {text : List ℕ} where
 
   ops-colon : {n : ℕ} {lambda : Bool} {f g : Form} {p q : Place} → Derives text (Ops n lambda f g) p q → Not kind.Colon q → Not kind.Colon p
   ops-colon (by.no-op h) n = n
-  ops-colon (by.binary {n = m} l h a d e) n = record { differs = λ q. let i = subst (λ j. m < levelOf j) (sym (a .here) ∙ q) l in absurd (omega (arith, i, no-level)) }
+  ops-colon (by.binary {n = m} l h a d e) n = record { differs = λ q. let i = subst (λ j. m < levelOf j) (sym (a .here) ∙ q) l in absurd (omega (arith, i, colon-level)) }
   ops-colon (by.type-check l a c b e) n = elsewhere kind.Colon refl (at-token a)
 
   -- all Eols are taken
@@ -137,11 +121,11 @@ module _ {text : List ℕ} where
   group-front : {p u v x : Place} (a : Tok kind.OpenParen p u) (D : Derives text (Expr true) u v) (b : Tok kind.CloseParen v x) → Front text (Behind Other x) p (costs (by.group a D b)) (records (by.group a D b)) (need (by.group a D b))
   unfolding costs records need
   group-front a D b =
-      let i = one-taken (elsewhere kind.Eof refl (at-token a)) in
-      let j = one-taken (elsewhere kind.Eof refl (at-token b)) in
+      let i = one-spent a refl in
+      let j = one-spent b refl in
       record { leads = a-group a D b (record { unnamed = tt; colon = λ h. h }) (omega (arith, i, j)) (omega arith) (omega arith); fns = no-fn (elsewhere kind.Fn refl (at-token a)) refl }
 
-  literal-reads : {p q : Place} (D : Derives text Lit p q) → 1 ≡ cost D
+  pub literal-reads : {p q : Place} (D : Derives text Lit p q) → 1 ≡ cost D
   unfolding costs among
   literal-reads (by.a-literal a b) = let i = one-taken (apart kind.Eof (starts (by.a-literal a b)) refl) in omega (arith, i)
 

@@ -1,7 +1,9 @@
 pub mod Tests
+pub mod FirstKinds
 pub mod Starts
 pub mod Links
 pub mod Examples
+pub mod ExampleTrees
 pub mod Sound
 pub mod SoundSteps
 pub mod SoundValues
@@ -57,6 +59,8 @@ pub mod UnambiguousSymbols
 pub mod Unambiguous
 pub mod Cost
 pub mod Meets
+pub mod MeetsBinds
+pub mod MeetsFails
 pub mod MeetsSteps
 pub mod MeetsValues
 pub mod MeetsLists
@@ -75,9 +79,6 @@ pub mod WordsOfSymbols
 pub mod WordsOfCalls
 pub mod WordsOfParts
 pub mod WordsOfAll
-pub mod MarkSums
-pub mod Marked
-pub mod MarkLengths
 pub mod Leading
 pub mod MeetsTables
 pub mod MeetsAssign

@@ -26,13 +26,14 @@ use Rattle.exprs.proofs.Takes.{left-turn-takes, right-turn-takes}
 use Rattle.grammar.specs.Places.{Place, after, Tok, Here, Not, Free}
 use Rattle.grammar.specs.Symbols.{Form, Name, NameMember, Call, Other, Assignable, a-name, a-member, Ty, Lefts, Rights, Expr as Whole, Prec}
 use Rattle.grammar.specs.Derives.{Derives, Compound, adding, subtracting, multiplying, dividing, remaining, signs, no-left, a-left, no-right, a-right}
+use Rattle.grammar.proofs.Tests.{at-token}
 use Rattle.grammar.proofs.SoundExprs.{formOf}
 use Rattle.grammar.proofs.FewLefts.{lefts-few, view-short}
 use Rattle.grammar.proofs.Cost.{taken, costs, cost}
 use Rattle.grammar.specs.Records.{records}
 use Rattle.grammar.specs.Depth.{need}
-use Rattle.grammar.proofs.Leading.{at-token}
-use Rattle.grammar.proofs.Meets.{Cost, _⊕_, nothing, inside, costOf, Any, Goes, goes, stops, Meets, gives, answers, answers-stop, yes-so, not-so, fits, maps, next, turn-more, turn-stop}
+use Rattle.grammar.proofs.Meets.{Cost, _⊕_, nothing, inside, costOf, Any, Goes, goes, stops, Meets}
+use Rattle.grammar.proofs.MeetsBinds.{gives, answers, answers-stop, yes-so, not-so, fits, maps, next, turn-more, turn-stop}
 use Rattle.grammar.proofs.MeetsSteps.{position, after-none, before-none, add-meets, bumps, expects, here, not-here, ranges, ranges-not, picks, picks-none}
 use Rattle.grammar.proofs.MeetsValues.{close-meets, pair-meets}
 use Rattle.grammar.proofs.MeetsTypes.{types-meet}

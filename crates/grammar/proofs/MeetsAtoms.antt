@@ -49,14 +49,17 @@ use Rattle.grammar.specs.Derives.{
   case-of,
 }
 use Rattle.grammar.specs.Words.{among}
-use Rattle.grammar.proofs.Starts.{starts, apart}
+use Rattle.grammar.proofs.Tests.{elsewhere, at-token}
+use Rattle.grammar.proofs.FirstKinds.{apart}
+use Rattle.grammar.proofs.Starts.{starts}
 use Rattle.grammar.proofs.SoundExprs.{formOf}
 use Rattle.grammar.proofs.Cost.{costs}
 use Rattle.grammar.specs.Records.{records}
 use Rattle.grammar.specs.Depth.{need}
-use Rattle.grammar.proofs.Meets.{Cost, _⊕_, building, costOf, Any, Meets, gives, answers, answers-more, answers-stop, fits, next, turn-more, turn-stop}
+use Rattle.grammar.proofs.Meets.{Cost, _⊕_, building, costOf, Any, Meets}
+use Rattle.grammar.proofs.MeetsBinds.{gives, answers, answers-more, answers-stop, fits, next, turn-more, turn-stop}
 use Rattle.grammar.proofs.MeetsSteps.{position, before-none, bumps, expects, lines, here, not-here, eats, eats-not, picks, picks-none, adds}
-use Rattle.grammar.proofs.MeetsValues.{elsewhere, unlike, lit-free, close-meets, begins, ident-meets, lit-meets}
+use Rattle.grammar.proofs.MeetsValues.{unlike, lit-free, close-meets, begins, ident-meets, lit-meets}
 use Rattle.grammar.proofs.MeetsPatterns.{names-meet, case-patterns-meet}
 use Rattle.grammar.proofs.MeetsRecords.{row-record-meets, list-record-meets, fn-record-meets, if-record-meets, round-record-meets}
 use Rattle.grammar.proofs.MeetsBlocks.{Handed, Braces, exprs-meet, blocks-meet, block-meets, and-block-meets, elements-meet, functions-meet}
@@ -65,7 +68,7 @@ use Rattle.grammar.proofs.MeetsBlocks.{Handed, Braces, exprs-meet, bloc
 case-apart : {text : List ℕ} {p q r : Place} → Derives text Eols p q → Derives text Case q r → Not kind.CloseBrace p
 unfolding among
 case-apart (no-eol n) D = apart kind.CloseBrace (starts D) refl
-case-apart (an-eol t E) D = elsewhere kind.CloseBrace refl (record { stands = t .here })
+case-apart (an-eol t E) D = elsewhere kind.CloseBrace refl (at-token t)
 
 module _ {e : Sheet} {d : ℕ} (h : Handed e d) where
   -- what stands behind an `if` and its block, and the record over all

@@ -1,6 +1,5 @@
 -- Expressions, blocks and functions, over what the rules are handed; and the lists of expressions.
 use mathlib.Core.Path.{_≡_, refl}
-use mathlib.Core.List.{List}
 use mathlib.Core.Bool.{Bool, true, false}
 use Prim.Native.Nat.{ℕ, _+_}
 use native.Mathlib.Omega.{arith}
@@ -18,17 +17,19 @@ use Rattle.grammar.specs.Places.{Place, Tok, Not}
 use Rattle.grammar.specs.Symbols.{Form, Eols, Until, NoLast, Body, Block, Function, Expr, Prec, Property}
 use Rattle.grammar.specs.Derives.{Derives, block-of, function-of, expr-of, table, block-expr}
 use Rattle.grammar.specs.Words.{among}
-use Rattle.grammar.proofs.Starts.{Opens, starts, apart}
+use Rattle.grammar.proofs.FirstKinds.{opening-apart}
+use Rattle.grammar.proofs.Starts.{starts}
 use Rattle.grammar.proofs.SoundExprs.{formOf}
 use Rattle.grammar.proofs.Cost.{costs}
 use Rattle.grammar.specs.Records.{records}
 use Rattle.grammar.specs.Depth.{need}
-use Rattle.grammar.proofs.Meets.{_⊕_, inside, costOf, Any, Meets, answers, fits, any, next}
+use Rattle.grammar.proofs.Meets.{_⊕_, inside, costOf, Any, Meets}
+use Rattle.grammar.proofs.MeetsBinds.{answers, fits, any, next}
 use Rattle.grammar.proofs.MeetsSteps.{before-none, expects, adds, add-meets}
 use Rattle.grammar.proofs.MeetsValues.{begins}
 use Rattle.grammar.proofs.MeetsLists.{until-meets}
 use Rattle.grammar.proofs.MeetsTypes.{returns-meet}
-use Rattle.grammar.proofs.MeetsParts.{no-last, any-params-meet}
+use Rattle.grammar.proofs.MeetsParts.{any-params-meet}
 use Rattle.grammar.proofs.MeetsRecords.{wrapping, block-record-meets, function-record-meets}
 
 -- what the rules are handed: expressions and statements one level further in
@@ -41,10 +42,6 @@ pub record Braces (e : Sheet) (d : ℕ) : Type 0 where
   pub tables : {p q r : Place} (a : Tok kind.OpenBrace p q) (D : Derives (e .text) (Until Property NoLast kind.CloseBrace) q r) (from : ℕ) → Meets e d p r (costOf (table a D)) Any (brace (levels e d) from)
   pub block-exprs : {p q r s : Place} (a : Tok kind.OpenBrace p q) (E : Derives (e .text) Eols q r) (n : Not kind.CloseBrace r) (D : Derives (e .text) (Body kind.CloseBrace) r s) (from : ℕ)
       → Meets e d p s (costOf (block-expr a E n D)) Any (brace (levels e d) from)
-
--- no kind stands before an expression that is not among those which begin one
-pub not-opened : {ks : List ℕ} {p : Place} (k : ℕ) → Opens ks p → among k ks ≡ false → Not k p
-not-opened k o f = apart k (record { first = o .first }) f
 
 module _ {e : Sheet} {d : ℕ} (h : Handed e d) where
   -- parse_expr
@@ -68,11 +65,11 @@ module _ {e : Sheet} {d : ℕ} (h : Handed e d) where
   -- arguments and elements
   pub arguments-meet : {p q : Place} (D : Derives (e .text) (Until (Expr true) NoLast kind.CloseParen) p q) (kids : Kids) → Meets e d p q (costOf D) Any (itemsOf (levels e d) 0 kids)
   unfolding itemsOf item itemsEnd among
-  arguments-meet D kids = until-meets kind.CloseParen (item (levels e d) 0) refl (record { meets = λ E. exprs-meet E }) (until-turn-takes e d 0 kind.CloseParen) (record { no-end = λ E. not-opened kind.CloseParen (starts E) refl; none = λ E. no-last E }) D kids
+  arguments-meet D kids = until-meets kind.CloseParen (item (levels e d) 0) refl (record { meets = λ E. exprs-meet E }) (until-turn-takes e d 0 kind.CloseParen) (record { no-end = λ E. opening-apart kind.CloseParen (starts E) refl; none = λ E. starts E }) D kids
 
   pub elements-meet : {p q : Place} (D : Derives (e .text) (Until (Expr true) NoLast kind.CloseBracket) p q) (kids : Kids) → Meets e d p q (costOf D) Any (itemsOf (levels e d) 1 kids)
   unfolding itemsOf item itemsEnd among
-  elements-meet D kids = until-meets kind.CloseBracket (item (levels e d) 1) refl (record { meets = λ E. exprs-meet E }) (until-turn-takes e d 1 kind.CloseBracket) (record { no-end = λ E. not-opened kind.CloseBracket (starts E) refl; none = λ E. no-last E }) D kids
+  elements-meet D kids = until-meets kind.CloseBracket (item (levels e d) 1) refl (record { meets = λ E. exprs-meet E }) (until-turn-takes e d 1 kind.CloseBracket) (record { no-end = λ E. opening-apart kind.CloseBracket (starts E) refl; none = λ E. starts E }) D kids
 
   -- parse_function, and the same of a closure
   pub functions-meet : {closure : Bool} {p q : Place} (D : Derives (e .text) (Function closure) p q) (from : ℕ) → Meets e d p q (costOf D) Any (function (levels e d) from closure)

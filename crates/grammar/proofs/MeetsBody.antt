@@ -18,14 +18,16 @@ use Rattle.grammar.specs.Places.{Place, Tok}
 use Rattle.grammar.specs.Symbols.{Body, Stmts, Stmt}
 use Rattle.grammar.specs.Derives.{Derives, body-of, no-stmt, last-stmt, a-line}
 use Rattle.grammar.specs.Words.{among}
-use Rattle.grammar.proofs.Starts.{stmts, starts, apart}
+use Rattle.grammar.proofs.Tests.{at-token, elsewhere}
+use Rattle.grammar.proofs.FirstKinds.{stmts, apart}
+use Rattle.grammar.proofs.Starts.{starts}
 use Rattle.grammar.proofs.Cost.{taken, costs}
 use Rattle.grammar.specs.Records.{records}
 use Rattle.grammar.specs.Depth.{need}
-use Rattle.grammar.proofs.Leading.{at-token}
-use Rattle.grammar.proofs.Meets.{reading, costOf, Any, Meets, answers, answers-more, answers-stop, fits, next, kept-recover, turn-more, turn-stop}
+use Rattle.grammar.proofs.Meets.{reading, costOf, Any, Meets}
+use Rattle.grammar.proofs.MeetsBinds.{answers, answers-more, answers-stop, fits, next, kept-recover, turn-more, turn-stop}
 use Rattle.grammar.proofs.MeetsSteps.{expect-meets, lines, not-here, eats, eats-not}
-use Rattle.grammar.proofs.MeetsValues.{elsewhere, adds-some}
+use Rattle.grammar.proofs.MeetsValues.{adds-some}
 use Rattle.grammar.proofs.MeetsBlocks.{Handed}
 use Rattle.grammar.proofs.MeetsStmts.{stmts-meet}
 

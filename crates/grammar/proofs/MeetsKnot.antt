@@ -10,7 +10,8 @@ use Rattle.grammar.specs.Places.{Place}
 use Rattle.grammar.specs.Symbols.{Body}
 use Rattle.grammar.specs.Derives.{Derives}
 use Rattle.grammar.specs.Words.{among}
-use Rattle.grammar.proofs.Meets.{inside, costOf, Any, Meets, refuses, deeper}
+use Rattle.grammar.proofs.Meets.{inside, costOf, Any, Meets}
+use Rattle.grammar.proofs.MeetsBinds.{refuses, deeper}
 use Rattle.grammar.proofs.MeetsBlocks.{Handed}
 use Rattle.grammar.proofs.MeetsTables.{braces-meet}
 use Rattle.grammar.proofs.MeetsPrec.{precedence-meets}

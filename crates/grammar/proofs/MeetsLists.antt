@@ -16,12 +16,13 @@ use Rattle.parts.specs.Until.{untilTurn, itemsUntil}
 use Rattle.grammar.specs.Places.{Place, Tok, Here, Not}
 use Rattle.grammar.specs.Symbols.{Sym, Eols, Until, Items}
 use Rattle.grammar.specs.Derives.{Derives, until-of, items-end, items-last, items-final, items-comma}
+use Rattle.grammar.proofs.Tests.{elsewhere, at-token}
 use Rattle.grammar.proofs.Cost.{taken, costs, cost}
 use Rattle.grammar.specs.Records.{records}
 use Rattle.grammar.specs.Depth.{need}
-use Rattle.grammar.proofs.Meets.{_⊕_, reading, costOf, itemCost, Any, Goes, Stops, Meets, Reads, answers, answers-more, answers-stop, yes-so, fits, next, turn-more, turn-stop}
+use Rattle.grammar.proofs.Meets.{_⊕_, reading, costOf, itemCost, Any, Goes, Stops, Meets, Reads}
+use Rattle.grammar.proofs.MeetsBinds.{answers, answers-more, answers-stop, yes-so, fits, next, turn-more, turn-stop}
 use Rattle.grammar.proofs.MeetsSteps.{before-none, eat-yes, eols-meet, expects, lines, here, not-here, eats, eats-not, adds}
-use Rattle.grammar.proofs.MeetsValues.{elsewhere}
 
 -- an item is told from the end of its list and from a last item by its first token
 pub record Parted (text : List ℕ) (x y : Sym) (end last : ℕ) : Type 0 where
@@ -44,7 +45,7 @@ module _ {e : Sheet} {d : ℕ} {x : Sym} (end : ℕ) (item : Rule ℕ) (unlike-c
   item-goes : {p q r s t : Place} (D : Derives (e .text) x p q) (E : Derives (e .text) Eols q r) → Tok kind.Comma r s → (F : Derives (e .text) Eols s t) → (i : Row)
       → Meets e d p t (itemCost D ⊕ (reading (cost E) ⊕ (reading (taken r) ⊕ reading (cost F)))) (Goes Any) (oneItem e item end i)
   unfolding oneItem afterItem
-  item-goes D E t F i = next (items .meets D) (λ link _. adds _ _ (λ all. lines E (eats-not _ (elsewhere end unlike-comma (record { stands = t .here })) (expects t (before-none (eols-meet F) (λ _ _. answers-more))))))
+  item-goes D E t F i = next (items .meets D) (λ link _. adds _ _ (λ all. lines E (eats-not _ (elsewhere end unlike-comma (at-token t)) (expects t (before-none (eols-meet F) (λ _ _. answers-more))))))
 
   -- parse_items_until_with_last
   module _ {y : Sym} (lastKind : ℕ) (last : Row → Rule Row) (takes : Takes e (itemTurn e item lastKind last end)) (lasts : (i : Row) → Reads e d y (last i)) (parted : Parted (e .text) x y end lastKind) where

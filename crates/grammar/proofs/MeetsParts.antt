@@ -20,19 +20,17 @@ use Rattle.parts.proofs.UntilPaths.{until-takes}
 use Rattle.grammar.specs.Places.{Place, Tok}
 use Rattle.grammar.specs.Symbols.{Until, Items, NoLast, Effect, Path, ImportItem, Params}
 use Rattle.grammar.specs.Derives.{Derives, until-of, items-end, items-last, items-final, items-comma, effect-of, path-more, path-alone, path-as, path-items, path-all, item-alone, item-as}
+use Rattle.grammar.proofs.Tests.{elsewhere, at-token}
 use Rattle.grammar.proofs.Starts.{starts}
 use Rattle.grammar.proofs.Cost.{taken, costs}
 use Rattle.grammar.specs.Records.{records}
 use Rattle.grammar.specs.Depth.{need}
-use Rattle.grammar.proofs.Meets.{_⊕_, reading, building, costOf, flatCost, Any, Meets, Reads, answers-more, answers-stop, fits, next, turn-more, turn-stop}
+use Rattle.grammar.proofs.Meets.{_⊕_, reading, building, costOf, flatCost, Any, Meets, Reads}
+use Rattle.grammar.proofs.MeetsBinds.{answers-more, answers-stop, fits, next, turn-more, turn-stop}
 use Rattle.grammar.proofs.MeetsSteps.{before-none, bumps, expects, here, not-here, eats, eats-not, picks, adds}
-use Rattle.grammar.proofs.MeetsValues.{elsewhere, close-meets, begins, adds-some, ident-meets}
+use Rattle.grammar.proofs.MeetsValues.{close-meets, begins, adds-some, ident-meets}
 use Rattle.grammar.proofs.MeetsLists.{until-meets}
 use Rattle.grammar.proofs.MeetsTypes.{returns-meet, params-meet, closure-params-meet}
-
--- there is no last item where there is none
-pub no-last : {text : List ℕ} {p q : Place} → Derives text NoLast p q → ⊥
-no-last D = elim D [ ]
 
 -- an import needs no level
 item-level : {text : List ℕ} {p q : Place} (D : Derives text ImportItem p q) → need D ≤ 0
@@ -43,7 +41,7 @@ item-level (item-as D t E) = omega arith
 items-level : {text : List ℕ} {end : ℕ} {p q : Place} (D : Derives text (Items ImportItem NoLast end) p q) → need D ≤ 0
 unfolding need
 items-level (items-end t) = omega arith
-items-level (items-last D E t) = absurd (no-last D)
+items-level (items-last D E t) = absurd (starts D)
 items-level (items-final D E t) = item-level D
 items-level (items-comma D E t F G) = omega (arith, item-level D, items-level G)
 
@@ -62,18 +60,18 @@ module _ {e : Sheet} {d : ℕ} where
 
   items-of : {p q : Place} (D : Derives (e .text) (Until ImportItem NoLast kind.CloseBrace) p q) (kids : Kids) → Meets e d p q (flatCost D) Any (importItems e kids)
   unfolding importItems
-  items-of D kids = fits refl refl (until-level D) (until-meets kind.CloseBrace (importItem e) refl item-reads (until-takes e (importItem e) kind.CloseBrace (import-items-keep e)) (record { no-end = λ D. elsewhere kind.CloseBrace refl (starts D); none = λ D. no-last D }) D kids)
+  items-of D kids = fits refl refl (until-level D) (until-meets kind.CloseBrace (importItem e) refl item-reads (until-takes e (importItem e) kind.CloseBrace (import-items-keep e)) (record { no-end = λ D. elsewhere kind.CloseBrace refl (starts D); none = λ D. starts D }) D kids)
 
   -- a path, name by name
   path-meets : {p q : Place} (D : Derives (e .text) Path p q) (i : Imported) → Meets e d p q (flatCost D) Any (iterate e (pathTurn e) i)
   unfolding pathTurn importEnd importTail costs records
   path-meets (path-more D t E) i = fits (omega arith) (omega arith) (omega arith) (turn-more (path-takes e) (next (ident-meets D) (λ name _. adds _ _ (λ longer. eats _ t (here _ (starts E) answers-more)))) (λ j _. path-meets E j))
   path-meets (path-alone D h) i = turn-stop _ _ (fits (omega arith) (omega arith) (omega arith) (next (ident-meets D) (λ name _. adds _ _ (λ longer. eats-not _ (elsewhere kind.DoubleColon refl h) (picks _ endChain (h .stands) answers-stop)))))
-  path-meets (path-as D t E) i = turn-stop _ _ (fits (omega arith) (omega arith) (omega arith) (next (ident-meets D) (λ name _. adds _ _ (λ longer. eats-not _ (elsewhere kind.DoubleColon refl (record { stands = t .here }))
+  path-meets (path-as D t E) i = turn-stop _ _ (fits (omega arith) (omega arith) (omega arith) (next (ident-meets D) (λ name _. adds _ _ (λ longer. eats-not _ (elsewhere kind.DoubleColon refl (at-token t))
       (picks _ endChain (t .here) (bumps (t .next) (next (ident-meets E) (λ alias _. adds _ _ (λ all. answers-stop)))))))))
-  path-meets (path-items D t b E) i = turn-stop _ _ (fits (omega arith) (omega arith) (omega arith) (next (ident-meets D) (λ name _. adds _ _ (λ longer. eats _ t (not-here _ (elsewhere kind.Ident refl (record { stands = b .here }))
+  path-meets (path-items D t b E) i = turn-stop _ _ (fits (omega arith) (omega arith) (omega arith) (next (ident-meets D) (λ name _. adds _ _ (λ longer. eats _ t (not-here _ (elsewhere kind.Ident refl (at-token b))
       (picks _ tailChain (b .here) (bumps (b .next) (before-none (items-of E _) (λ j _. answers-stop)))))))))
-  path-meets (path-all D t b) i = turn-stop _ _ (fits (omega arith) (omega arith) (omega arith) (next (ident-meets D) (λ name _. adds _ _ (λ longer. eats _ t (not-here _ (elsewhere kind.Ident refl (record { stands = b .here }))
+  path-meets (path-all D t b) i = turn-stop _ _ (fits (omega arith) (omega arith) (omega arith) (next (ident-meets D) (λ name _. adds _ _ (λ longer. eats _ t (not-here _ (elsewhere kind.Ident refl (at-token b))
       (picks _ tailChain (b .here) (bumps (b .next) answers-stop)))))))
 
   -- the statement from its keyword on

@@ -17,11 +17,13 @@ use Rattle.grammar.specs.Places.{Place, Tok, Not}
 use Rattle.grammar.specs.Symbols.{Until, Dots, Pattern, PatternPair, Names, Patterns}
 use Rattle.grammar.specs.Derives.{Derives, dots, pattern-name, pattern-table, pattern-list, pattern-literal, pattern-pair, last-name, more-names, last-pattern, more-patterns}
 use Rattle.grammar.specs.Words.{among}
-use Rattle.grammar.proofs.Starts.{starts, apart}
+use Rattle.grammar.proofs.FirstKinds.{apart}
+use Rattle.grammar.proofs.Starts.{starts}
 use Rattle.grammar.proofs.Cost.{taken, costs}
 use Rattle.grammar.specs.Records.{records}
 use Rattle.grammar.specs.Depth.{need}
-use Rattle.grammar.proofs.Meets.{Cost, _⊕_, reading, costOf, flatCost, Any, Goes, Stops, Meets, Reads, answers, answers-more, answers-stop, refuses, fits, deeper, next, turn-more, turn-stop}
+use Rattle.grammar.proofs.Meets.{Cost, _⊕_, reading, costOf, flatCost, Any, Goes, Stops, Meets, Reads}
+use Rattle.grammar.proofs.MeetsBinds.{answers, answers-more, answers-stop, refuses, fits, deeper, next, turn-more, turn-stop}
 use Rattle.grammar.proofs.MeetsSteps.{before-none, bump-meets, eats, eats-not, bumps, expects, picks, picks-none, adds}
 use Rattle.grammar.proofs.MeetsValues.{close-meets, pair-meets, begins, ident-meets, lit-meets, unlike, lit-free}
 use Rattle.grammar.proofs.MeetsLists.{items-meet}

@@ -31,7 +31,8 @@ use Rattle.grammar.proofs.SoundExprs.{formOf}
 use Rattle.grammar.proofs.Cost.{taken, costs}
 use Rattle.grammar.specs.Records.{records}
 use Rattle.grammar.specs.Depth.{need}
-use Rattle.grammar.proofs.Meets.{Cost, _⊕_, nothing, reading, building, inside, costOf, Goes, goes, Stops, stops, EndsAt, Meets, gives, yes-so, not-so, fits, next, turn-more, turn-stop}
+use Rattle.grammar.proofs.Meets.{Cost, _⊕_, nothing, reading, building, inside, costOf, Goes, goes, Stops, stops, EndsAt, Meets}
+use Rattle.grammar.proofs.MeetsBinds.{gives, yes-so, not-so, fits, next, turn-more, turn-stop}
 use Rattle.grammar.proofs.MeetsSteps.{before-none, bumps}
 use Rattle.grammar.proofs.MeetsValues.{close-meets, begins}
 use Rattle.grammar.proofs.MeetsRecords.{couple-meets}

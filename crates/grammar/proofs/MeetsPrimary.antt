@@ -25,16 +25,19 @@ use Rattle.grammar.specs.Places.{Place, Here, Not, from-all}
 use Rattle.grammar.specs.Symbols.{Form, Call, Until, NoLast, Block, Primary, Posts, Member, Expr as Whole}
 use Rattle.grammar.specs.Derives.{Derives, NoLambda, no-brace, not-taken, primary-of, no-post, call, call-lambda, lambda-alone, member, safe-member, bracket, dot, double-colon, bracket-meta, dot-meta, double-colon-meta}
 use Rattle.grammar.specs.Words.{among}
-use Rattle.grammar.proofs.Starts.{starts, apart}
+use Rattle.grammar.proofs.Tests.{elsewhere, at-token}
+use Rattle.grammar.proofs.FirstKinds.{apart, opening-apart}
+use Rattle.grammar.proofs.Starts.{starts}
 use Rattle.grammar.proofs.SoundExprs.{formOf}
 use Rattle.grammar.proofs.Cost.{costs, cost}
 use Rattle.grammar.specs.Records.{records}
 use Rattle.grammar.specs.Depth.{need}
-use Rattle.grammar.proofs.Meets.{_⊕_, nothing, building, costOf, Goes, goes, stops, Meets, gives, answers, yes-so, not-so, fits, maps, next, turn-more, turn-stop}
+use Rattle.grammar.proofs.Meets.{_⊕_, nothing, building, costOf, Goes, goes, stops, Meets}
+use Rattle.grammar.proofs.MeetsBinds.{gives, answers, yes-so, not-so, fits, maps, next, turn-more, turn-stop}
 use Rattle.grammar.proofs.MeetsSteps.{after-none, check-yes, check-not, bumps, expects, eats, eats-not, ranges, ranges-not, picks, picks-none}
-use Rattle.grammar.proofs.MeetsValues.{elsewhere, begins, ident-meets}
+use Rattle.grammar.proofs.MeetsValues.{begins, ident-meets}
 use Rattle.grammar.proofs.MeetsRecords.{OfForm, a-name, a-name-member, a-call, another, call-record-meets, member-record-meets, safe-record-meets}
-use Rattle.grammar.proofs.MeetsBlocks.{Handed, Braces, not-opened, exprs-meet, blocks-meet, arguments-meet}
+use Rattle.grammar.proofs.MeetsBlocks.{Handed, Braces, exprs-meet, blocks-meet, arguments-meet}
 use Rattle.grammar.proofs.MeetsAtoms.{atoms-meet}
 
 -- the form of an answer, told in two ways
@@ -76,7 +79,7 @@ module _ {e : Sheet} {d : ℕ} (h : Handed e d) where
         → Meets e d p q (costOf D ⊕ building) Q (pick e memberChain >>= (λ which. when (ltb 2 which) none (memberRule (levels e d) which >>= (λ link. f which link))))
     unfolding memberRule metaEnd among costs records need
     member-meets (bracket a D b) x = fits (omega arith) (omega arith) (omega arith)
-        (picks _ memberChain (a .here) (next (bumps (a .next) (eats-not _ (not-opened kind.Pound (starts D) refl) (next (exprs-meet h D) (λ link _. expects b answers)))) (λ link _. x 0 link)))
+        (picks _ memberChain (a .here) (next (bumps (a .next) (eats-not _ (opening-apart kind.Pound (starts D) refl) (next (exprs-meet h D) (λ link _. expects b answers)))) (λ link _. x 0 link)))
     member-meets (dot a D) x = fits (omega arith) (omega arith) (omega arith) (picks _ memberChain (a .here) (next (bumps (a .next) (eats-not _ (elsewhere kind.Pound refl (starts D)) (ident-meets D))) (λ link _. x 1 link)))
     member-meets (double-colon a D) x = fits (omega arith) (omega arith) (omega arith) (picks _ memberChain (a .here) (next (bumps (a .next) (eats-not _ (elsewhere kind.Pound refl (starts D)) (ident-meets D))) (λ link _. x 2 link)))
     member-meets (bracket-meta a b c) x = fits (omega arith) (omega arith) (omega arith) (picks _ memberChain (a .here) (next (bumps (a .next) (eats _ b (expects c answers))) (λ link _. x 0 link)))
@@ -103,7 +106,7 @@ module _ {e : Sheet} {d : ℕ} (h : Handed e d) where
       (turn-more (postfix-turn-takes e d from lambda) (maps goes-as (eats-not _ (apart kind.OpenParen (starts D) refl) (after-none (unbraced lambda (apart kind.OpenBrace (starts D) refl)) (λ t j. not-so _ j (ranges-not _ (apart kind.Question (starts D) refl)
       (member-meets (λ which link. memberRecord from ranged.Nowhere which x link) _ D (λ which link. member-record-meets from which link (of-form x i)))))))) (λ y j. posts-meet E from y j))
   posts-meet {lambda} (safe-member a D E) from x i = fits (omega arith) (omega arith) (omega arith)
-      (turn-more (postfix-turn-takes e d from lambda) (maps goes-as (eats-not _ (elsewhere kind.OpenParen refl (record { stands = a .here })) (after-none (unbraced lambda (elsewhere kind.OpenBrace refl (record { stands = a .here }))) (λ t j. not-so _ j
+      (turn-more (postfix-turn-takes e d from lambda) (maps goes-as (eats-not _ (elsewhere kind.OpenParen refl (at-token a)) (after-none (unbraced lambda (elsewhere kind.OpenBrace refl (at-token a))) (λ t j. not-so _ j
       (ranges _ (eqb-false kind.Question kind.Eof refl) a (member-meets (λ which link. memberRecord from _ which x link) _ D (λ which link. safe-record-meets from _ which x link))))))) (λ y j. posts-meet E from y j))
 
   -- parse_expr_primary

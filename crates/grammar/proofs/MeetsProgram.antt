@@ -18,7 +18,8 @@ use Rattle.grammar.proofs.Outset.{outset, settled-at, program-is, first
 use Rattle.grammar.proofs.Cost.{cost}
 use Rattle.grammar.specs.Records.{records}
 use Rattle.grammar.specs.Depth.{need}
-use Rattle.grammar.proofs.Meets.{Cost, building, Any, Lacks, few-nodes, few-levels, few-reads, full, EndsAt, arrives, short, Meets, fits, next}
+use Rattle.grammar.proofs.Meets.{Cost, building, Any, Lacks, few-nodes, few-levels, few-reads, full, EndsAt, arrives, short, Meets}
+use Rattle.grammar.proofs.MeetsBinds.{fits, next}
 use Rattle.grammar.proofs.MeetsSteps.{append-meets}
 use Rattle.grammar.proofs.MeetsKnot.{knot-meets}
 

@@ -17,7 +17,8 @@ use Rattle.parts.specs.When.{when}
 use Rattle.parts.specs.Records.{couple, rowRecord, listRecord, wrapped, blockRecord, fnRecord, functionRecord, handlerRecord, handlersFlagged, ifRecord, roundRecord, callRecord, memberRecord}
 use Rattle.grammar.specs.Places.{Place}
 use Rattle.grammar.specs.Symbols.{Form, Name, NameMember, Call, Other, memberOf}
-use Rattle.grammar.proofs.Meets.{Cost, _⊕_, nothing, building, Any, Goes, goes, Meets, answers, gives, next}
+use Rattle.grammar.proofs.Meets.{Cost, _⊕_, nothing, building, Any, Goes, goes, Meets}
+use Rattle.grammar.proofs.MeetsBinds.{answers, gives, next}
 use Rattle.grammar.proofs.MeetsSteps.{before-none, reflag-meets, adds}
 use Rattle.grammar.proofs.MeetsValues.{close-meets, adds-some}
 

@@ -14,7 +14,7 @@ use Rattle.cursor.specs.declared.Label.{Label}
 use Rattle.cursor.specs.declared.Ranged.{Ranged}
 use Rattle.cursor.specs.declared.Ranged.the-variants as ranged
 use Rattle.cursor.specs.Sheet.{Sheet, count, kindAt}
-use Rattle.cursor.specs.Rule.{World, Out, Rule, _>>=_, _>>_, give, ifSo, more, iterate}
+use Rattle.cursor.specs.Rule.{World, Out, Rule, _>>=_, _>>_, give, ifSo, iterate}
 use Rattle.cursor.specs.Tokens.{pastTrivia, eatTrivia, bump, eolTurn, eatEol}
 use Rattle.cursor.specs.Checks.{liveRoom, want, check, eat, unexpected, expect, eatRange, pickFrom, pick}
 use Rattle.cursor.specs.Records.{append, add, reflag}
@@ -24,10 +24,13 @@ use Rattle.cursor.proofs.Writes.{put-length, write-length}
 use Rattle.grammar.specs.Places.{Place, kindOf, spanOf, after, Tok, Here, Not, Free, from-none, from-all}
 use Rattle.grammar.specs.Symbols.{Eols}
 use Rattle.grammar.specs.Derives.{Derives, no-eol, an-eol}
+use Rattle.grammar.proofs.Tests.{at-token}
 use Rattle.grammar.proofs.Links.{view, view-settle, view-token, view-past, calm-settle, placeAt, Settled, kind-place, after-place}
 use Rattle.grammar.proofs.SoundSteps.{after-end, range-place}
 use Rattle.grammar.proofs.Cost.{takenIn, taken, costs, cost}
-use Rattle.grammar.proofs.Meets.{Cost, _⊕_, nothing, reading, building, Any, Goes, Stops, stops, full, few-nodes, few-reads, EndsAt, arrives, short, remains, Meets, Fails, faulty, stays, gives, answers, answers-more, yes-so, not-so, fits, maps, next, turn-more, turn-stop, fails-later, fails-fit}
+use Rattle.grammar.proofs.Meets.{Cost, _⊕_, nothing, reading, building, Any, Goes, Stops, stops, full, few-nodes, few-reads, EndsAt, arrives, short, remains, Meets, Fails, faulty, stays}
+use Rattle.grammar.proofs.MeetsBinds.{gives, answers, answers-more, yes-so, not-so, fits, maps, next, turn-more, turn-stop}
+use Rattle.grammar.proofs.MeetsFails.{fails-later, fails-fit}
 
 -- where a kind stands first in a list; the list's length where it does not
 abbrev pub position : ℕ → List ℕ → ℕ
@@ -97,7 +100,7 @@ module _ {e : Sheet} {d : ℕ} where
 
     pub eat-yes : {q : Place} → Tok k p q → Meets e d p q (reading (taken p)) (λ b. b ≡ true) (eat e k)
     unfolding eat
-    eat-yes t = after-none (check-yes (record { stands = t .here })) (λ b f. yes-so _ f (before-none (bump-meets (t .next)) (λ _ _. gives refl)))
+    eat-yes t = after-none (check-yes (at-token t)) (λ b f. yes-so _ f (before-none (bump-meets (t .next)) (λ _ _. gives refl)))
 
     pub eat-not : Not k p → Meets e d p p nothing (λ b. b ≡ false) (eat e k)
     unfolding eat
@@ -115,7 +118,7 @@ module _ {e : Sheet} {d : ℕ} where
     pub range-yes : {q : Place} → (k ≡ kind.Eof → ⊥) → Tok k p q → Meets e d p q (reading (taken p)) (λ r. r ≡ ranged.At (spanOf p)) (eatRange e k)
     unfolding eatRange
     range-yes n t = record {
-      runs = λ s w h z. after-none (check-yes (record { stands = t .here })) (λ b f. yes-so _ f (before-none (bump-meets (t .next))
+      runs = λ s w h z. after-none (check-yes (at-token t)) (λ b f. yes-so _ f (before-none (bump-meets (t .next))
           (λ _ _. gives {P = λ r. r ≡ ranged.At (spanOf p)} (range-place e s k n h (ap kindOf z ∙ t .here) ∙ ap (λ x. ranged.At (spanOf x)) z)))) .runs s w h z;
     }
 

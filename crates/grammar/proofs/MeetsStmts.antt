@@ -20,19 +20,23 @@ use Rattle.grammar.specs.Places.{Place, after, Tok, Here, Not, Free, fro
 use Rattle.grammar.specs.Symbols.{Form, Ident, Stmt, Function, Prec}
 use Rattle.grammar.specs.Derives.{Derives, fn-stmt, import-stmt, effect-stmt, glo-fn, glo-effect, glo-assign, plain, assign, typed-assign, op-assign, unpack, multi}
 use Rattle.grammar.specs.Words.{among}
+use Rattle.grammar.proofs.FirstKinds.{opening-apart}
+use Rattle.grammar.proofs.Tests.{at-token, elsewhere}
 use Rattle.grammar.proofs.Links.{placeAt, Settled}
 use Rattle.grammar.proofs.Starts.{starts}
-use Rattle.grammar.proofs.Cost.{taken, costs, cost}
+use Rattle.grammar.proofs.Cost.{taken, costs, cost, one-spent}
 use Rattle.grammar.specs.Records.{records}
 use Rattle.grammar.specs.Depth.{need}
-use Rattle.grammar.proofs.Leading.{at-token, one-taken, Fns, no-fn, a-fn, prec-fns}
-use Rattle.grammar.proofs.Meets.{Cost, _⊕_, nothing, reading, costOf, Any, Meets, FailsAt, Fails, answers, fits, next, kept-attempt, fails-first, fails-later, fails-fit, retried}
+use Rattle.grammar.proofs.Leading.{Fns, no-fn, a-fn, prec-fns}
+use Rattle.grammar.proofs.Meets.{Cost, _⊕_, nothing, reading, costOf, Any, Meets, FailsAt, Fails}
+use Rattle.grammar.proofs.MeetsBinds.{answers, fits, next, kept-attempt}
+use Rattle.grammar.proofs.MeetsFails.{fails-first, fails-later, fails-fit, retried}
 use Rattle.grammar.proofs.MeetsSteps.{unexpected-fails, expect-meets, expect-fails, bumps, expects, here, not-here, picks, picks-none}
-use Rattle.grammar.proofs.MeetsValues.{elsewhere, start-meets, begins, ident-meets}
+use Rattle.grammar.proofs.MeetsValues.{start-meets, begins, ident-meets}
 use Rattle.grammar.proofs.MeetsTypes.{typed-ident-meets}
 use Rattle.grammar.proofs.MeetsParts.{import-meets, effect-meets}
 use Rattle.grammar.proofs.MeetsRecords.{fn-record-meets}
-use Rattle.grammar.proofs.MeetsBlocks.{Handed, not-opened, functions-meet}
+use Rattle.grammar.proofs.MeetsBlocks.{Handed, functions-meet}
 use Rattle.grammar.proofs.MeetsAssign.{right-meets, plain-meets, assign-meets, op-assign-meets, typed-assign-meets, unpack-meets, multi-meets}
 
 module _ {e : Sheet} {d : ℕ} {p : Place} where
@@ -50,7 +54,7 @@ module _ {e : Sheet} {d : ℕ} {p : Place} where
   nameless-fails : {q : Place} → Tok kind.Fn p q → Here kind.OpenParen q → Fails e d p (reading 1) (functionStmt (levels e d))
   unfolding functionStmt fnStmt
   nameless-fails t o =
-      let i = one-taken (elsewhere kind.Eof refl (at-token t)) in
+      let i = one-spent t refl in
       fails-fit {a = nothing ⊕ (reading (taken p) ⊕ nothing)} (omega (arith, i)) (omega arith) (omega arith) (fails-later start-meets (λ from _. fails-later (expect-meets kind.Fn t) (λ _ _. fails-first _ (ident-fails (elsewhere kind.Ident refl o)))))
 
   -- behind `glo`, whose range is handed on
@@ -64,7 +68,7 @@ module _ {e : Sheet} {d : ℕ} {p : Place} where
   opened {q = q} {c = c} D x = by (costs D .fn) (prec-fns D)
     where
       other : Free stmtChain p
-      other = from-all (not-opened kind.Import (starts D) refl) (from-all (not-opened kind.Effect (starts D) refl) (from-all (not-opened kind.Glo (starts D) refl) from-none))
+      other = from-all (opening-apart kind.Import (starts D) refl) (from-all (opening-apart kind.Effect (starts D) refl) (from-all (opening-apart kind.Glo (starts D) refl) from-none))
 
       plainly : Meets e d p q c Any (plainRule (levels e d))
       plainly = begins (λ from. picks-none _ other (x from))

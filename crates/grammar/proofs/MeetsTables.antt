@@ -24,17 +24,20 @@ use Rattle.grammar.specs.Places.{Place, kindOf, Tok, Not}
 use Rattle.grammar.specs.Symbols.{Eols, Until, NoLast, Body, Expr, Key, Property}
 use Rattle.grammar.specs.Derives.{Derives, until-of, items-end, items-final, items-comma, table, block-expr, property, group-key, literal-key}
 use Rattle.grammar.specs.Words.{among}
+use Rattle.grammar.proofs.Tests.{at-token, elsewhere}
 use Rattle.grammar.proofs.Links.{placeAt, Settled, kind-place}
-use Rattle.grammar.proofs.Starts.{lits, literal-first, starts, apart}
+use Rattle.grammar.proofs.FirstKinds.{lits, apart}
+use Rattle.grammar.proofs.Starts.{literal-first, starts}
 use Rattle.grammar.proofs.Cost.{taken, costs, cost}
 use Rattle.grammar.specs.Records.{records}
 use Rattle.grammar.specs.Depth.{need}
-use Rattle.grammar.proofs.Leading.{at-token, Leads, no-key, a-group, a-literal, body-leads}
-use Rattle.grammar.proofs.Meets.{Cost, _⊕_, nothing, reading, building, inside, costOf, flatCost, Any, FailsAt, faulty, Fails, Meets, answers, fits, next, kept-attempt, fails-first, fails-later, fails-fit, retried}
+use Rattle.grammar.proofs.Leading.{Leads, no-key, a-group, a-literal, body-leads}
+use Rattle.grammar.proofs.Meets.{Cost, _⊕_, nothing, reading, building, inside, costOf, flatCost, Any, FailsAt, faulty, Fails, Meets}
+use Rattle.grammar.proofs.MeetsBinds.{answers, fits, next, kept-attempt}
+use Rattle.grammar.proofs.MeetsFails.{fails-first, fails-later, fails-fit, retried}
 use Rattle.grammar.proofs.MeetsSteps.{unexpected-fails, eat-yes, eat-not, expect-meets, expect-fails, append-meets, bumps, expects, lines, eats, eats-not}
-use Rattle.grammar.proofs.MeetsValues.{elsewhere, begins, start-meets, close-meets, pair-meets, lit-meets}
+use Rattle.grammar.proofs.MeetsValues.{begins, start-meets, close-meets, pair-meets, lit-meets}
 use Rattle.grammar.proofs.MeetsLists.{until-meets}
-use Rattle.grammar.proofs.MeetsParts.{no-last}
 use Rattle.grammar.proofs.MeetsBlocks.{Handed, Braces, exprs-meet}
 
 -- where no literal stands none is read
@@ -93,7 +96,7 @@ module _ {e : Sheet} {d : ℕ} (h : Handed e d) where
   -- the properties behind the first one
   more-properties : {p q : Place} (D : Derives (e .text) (Until Property NoLast kind.CloseBrace) p q) (kids : Kids) → Meets e d p q (costOf D) Any (itemsOf (levels e d) 2 kids)
   unfolding itemsOf item itemsEnd among
-  more-properties D kids = until-meets kind.CloseBrace (propertyRule (levels e d)) refl (record { meets = λ E. properties-meet E }) (until-turn-takes e d 2 kind.CloseBrace) (record { no-end = λ E. apart kind.CloseBrace (starts E) refl; none = λ E. no-last E }) D kids
+  more-properties D kids = until-meets kind.CloseBrace (propertyRule (levels e d)) refl (record { meets = λ E. properties-meet E }) (until-turn-takes e d 2 kind.CloseBrace) (record { no-end = λ E. apart kind.CloseBrace (starts E) refl; none = λ E. starts E }) D kids
 
   -- a table from behind its first key on
   module _ (from inside-of first : ℕ) where

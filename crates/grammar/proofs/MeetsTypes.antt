@@ -16,13 +16,16 @@ use Rattle.grammar.specs.Places.{Place}
 use Rattle.grammar.specs.Symbols.{Sym, Until, Rest, Ty, TyAtom, Bars, TyPair, Others, Returns, Typed, Params}
 use Rattle.grammar.specs.Derives.{Derives, rest-of, one-type, union, no-bar, a-bar, ty-paren, ty-name, ty-table, ty-function, ty-literal, ty-pair, others, no-type, returned, bare, typed, params-of, closure-params}
 use Rattle.grammar.specs.Words.{among}
-use Rattle.grammar.proofs.Starts.{starts, apart}
+use Rattle.grammar.proofs.Tests.{elsewhere}
+use Rattle.grammar.proofs.FirstKinds.{apart}
+use Rattle.grammar.proofs.Starts.{starts}
 use Rattle.grammar.proofs.Cost.{costs}
 use Rattle.grammar.specs.Records.{records}
 use Rattle.grammar.specs.Depth.{need}
-use Rattle.grammar.proofs.Meets.{costOf, Any, Meets, Reads, answers, answers-more, answers-stop, refuses, fits, deeper, next, turn-more, turn-stop}
+use Rattle.grammar.proofs.Meets.{costOf, Any, Meets, Reads}
+use Rattle.grammar.proofs.MeetsBinds.{answers, answers-more, answers-stop, refuses, fits, deeper, next, turn-more, turn-stop}
 use Rattle.grammar.proofs.MeetsSteps.{before-none, bumps, expects, here, not-here, eats, eats-not, picks, picks-none, adds}
-use Rattle.grammar.proofs.MeetsValues.{elsewhere, close-meets, pair-meets, begins, adds-some, ident-meets, lit-meets, unlike, lit-free}
+use Rattle.grammar.proofs.MeetsValues.{close-meets, pair-meets, begins, adds-some, ident-meets, lit-meets, unlike, lit-free}
 use Rattle.grammar.proofs.MeetsLists.{Parted, items-meet}
 
 -- parse_typed_ident, with a type of any symbol

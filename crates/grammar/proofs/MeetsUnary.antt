@@ -18,23 +18,25 @@ use Rattle.grammar.specs.Places.{Place, after, Tok, Free, from-none, fro
 use Rattle.grammar.specs.Symbols.{Form, Call, Other, Unary, Handler, Handlers, Primary}
 use Rattle.grammar.specs.Derives.{Derives, negated, minus, tried, no-unary, last-handler, more-handlers, handler-of}
 use Rattle.grammar.specs.Words.{among}
-use Rattle.grammar.proofs.Starts.{Opens, atoms, starts}
+use Rattle.grammar.proofs.FirstKinds.{Opens, atoms, opening-apart}
+use Rattle.grammar.proofs.Starts.{starts}
 use Rattle.grammar.proofs.SoundExprs.{formOf}
 use Rattle.grammar.proofs.Cost.{taken, costs}
 use Rattle.grammar.specs.Records.{records}
 use Rattle.grammar.specs.Depth.{need}
-use Rattle.grammar.proofs.Meets.{_⊕_, reading, building, costOf, Any, Meets, gives, answers-more, answers-stop, fits, next, turn-more, turn-stop}
+use Rattle.grammar.proofs.Meets.{_⊕_, reading, building, costOf, Any, Meets}
+use Rattle.grammar.proofs.MeetsBinds.{gives, answers-more, answers-stop, fits, next, turn-more, turn-stop}
 use Rattle.grammar.proofs.MeetsSteps.{after-none, before-none, bumps, expects, here, not-here, picks, picks-none, adds}
 use Rattle.grammar.proofs.MeetsValues.{close-meets, begins, ident-meets}
 use Rattle.grammar.proofs.MeetsTypes.{params-meet}
 use Rattle.grammar.proofs.MeetsRecords.{OfForm, a-call, handler-record-meets, handlers-flagged-meet}
-use Rattle.grammar.proofs.MeetsBlocks.{Handed, Braces, not-opened, block-meets}
+use Rattle.grammar.proofs.MeetsBlocks.{Handed, Braces, block-meets}
 use Rattle.grammar.proofs.MeetsPrimary.{of-form, primaries-meet}
 
 -- no unary operator begins an atom
 unsigned : {p : Place} → Opens atoms p → Free unaryChain p
 unfolding among
-unsigned o = from-all (not-opened kind.Not o refl) (from-all (not-opened kind.Sub o refl) (from-all (not-opened kind.Try o refl) from-none))
+unsigned o = from-all (opening-apart kind.Not o refl) (from-all (opening-apart kind.Sub o refl) (from-all (opening-apart kind.Try o refl) from-none))
 
 module _ {e : Sheet} {d : ℕ} (h : Handed e d) where
   handler-meets : {p q : Place} (D : Derives (e .text) Handler p q) → Meets e d p q (costOf D) Any (handler (levels e d))

@@ -4,7 +4,6 @@ use mathlib.Core.List.{List, [], _∷_}
 use mathlib.Core.Bool.{Bool, true, false, true≢false}
 use Prim.Native.Nat.{ℕ, zero, suc}
 use native.Mathlib.Omega.{arith}
-use lib.Dec.{eqb}
 use borrow.Author.Tests.{eqb-false}
 use Rattle.kinds.specs.Number as kind
 use Rattle.cursor.specs.declared.State.{State}
@@ -17,21 +16,19 @@ use Rattle.cursor.specs.Records.{append}
 use Rattle.types.specs.declared.lits.Literal.the-variants as literals
 use Rattle.types.specs.Lits.{literal, litFrom, litAt, lit, identAt, ident}
 use Rattle.types.specs.Items.{start, close, pair, addSome}
-use Rattle.grammar.specs.Places.{Place, kindOf, spanOf, after, Tok, Here, Not, Free, from-none, from-all}
+use Rattle.grammar.specs.Places.{Place, kindOf, spanOf, after, Tok, Free, from-none, from-all}
 use Rattle.grammar.specs.Symbols.{Lit, Ident}
 use Rattle.grammar.specs.Derives.{Derives, a-literal, an-ident}
 use Rattle.grammar.specs.Words.{among}
 use Rattle.grammar.proofs.Links.{placeAt, Settled, kind-place}
 use Rattle.grammar.proofs.SoundSteps.{range-place}
-use Rattle.grammar.proofs.Starts.{lits, starts, apart}
+use Rattle.grammar.proofs.FirstKinds.{lits, apart}
+use Rattle.grammar.proofs.Starts.{starts}
 use Rattle.grammar.proofs.Cost.{taken, costs}
 use Rattle.grammar.specs.Records.{records}
-use Rattle.grammar.proofs.Meets.{Cost, _⊕_, nothing, reading, building, flatCost, Any, arrives, Meets, stays, answers, fits, any}
+use Rattle.grammar.proofs.Meets.{Cost, _⊕_, nothing, reading, building, flatCost, Any, arrives, Meets, stays}
+use Rattle.grammar.proofs.MeetsBinds.{answers, fits, any}
 use Rattle.grammar.proofs.MeetsSteps.{after-none, bumps, expects, adds, append-meets, add-meets}
-
--- a kind stands here, so another does not
-pub elsewhere : {k : ℕ} {p : Place} (j : ℕ) → eqb k j ≡ false → Here k p → Not j p
-elsewhere {k} j f h = record { differs = λ q. eqb-false k j f (sym (h .stands) ∙ q) }
 
 -- are all of these kinds other than the ones that begin a literal?
 unfoldable pub unlike : List ℕ → Bool

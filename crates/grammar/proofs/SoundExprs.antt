@@ -78,6 +78,18 @@ pub record Onward {text : List ℕ} {y : Sym} {p q : Place} (d : Derives text y 
 pub data Grown (text : List ℕ) (y : Form → Form → Sym) (from : ℕ) (x : Expr) : Spot → Spot → Expr → Type 0 where
   grown : {p q : Place} {n m : ℕ} {xs ys : List ℕ} {z : Expr} (d : Derives text (y (formOf x) (formOf z)) p q) → ((last : ℕ) (l : Label) (ks : Trees) → Onward d from x z xs ys n m last l ks) → Grown text y from x (at p n xs) (at q m ys) z
 
+-- a production of an expression and of what goes on from it, which starts where the expression does
+pub record Headed (text : List ℕ) (head all : Form → Sym) (rest : Form → Form → Sym) : Type 0 where
+  pub both : {f g : Form} {p q r : Place} → Derives text (head f) p q → Derives text (rest f g) q r → Derives text (all g) p r
+  pub both-is : {f g : Form} {p q r : Place} (d : Derives text (head f) p q) (b : Derives text (rest f g) q r) → shape (both d b) 0 blank ≡ shape b (startOf p) (shape d 0 blank)
+
+-- what has grown onto an expression is one with it
+pub onto : {text : List ℕ} {head all : Form → Sym} {rest : Form → Form → Sym} {p q : Place} {n m last : ℕ} {xs ys : List ℕ} {x z : Expr} {l : Label} {ks : Trees} {v : Spot} → Headed text head all rest → (d : Derives text (head (formOf x)) p q)
+    → shape d 0 blank ≡ only (tree l ks) → ((es : List Entry) → Stack xs n es → Held ys m n last x l ks es) → Grown text rest (startOf p) x (at q m ys) v z → Expressed text all (at p n xs) v z
+onto {p = p} {last = last} {l = l} {ks = ks} h d s g (grown b k) =
+    let o = k last l ks in
+    expressed (h .both d b) (h .both-is d b ∙ ap (λ z. shape b (startOf p) z) s ∙ o .same) (λ es st. o .push _ es (g es st))
+
 module _ (e : Sheet) where
   -- behind `is`
   pub data Tested (from : ℕ) (x : Expr) : Spot → Spot → Next Expr → Type 0 where

@@ -46,6 +46,11 @@ pub data Listed (text : List ℕ) (z : Sym) (kids : Kids) : Spot → Spot → Ro
       → ((lo c : ℕ) (ts : Trees) (es : List Entry) → kids .count ≡ word32 c → Stack xs n (row lo (kids .first) (kids .last) ts ∷ es) → Rowed ys m lo j (shape d 0 (sofar ts c)) es)
       → Listed text z kids (at p n xs) (at q m ys) j
 
+-- the Eols before a list
+begun : {text : List ℕ} {x y : Sym} {end : ℕ} {kids : Kids} {p q : Place} {n : ℕ} {xs : List ℕ} {v : Spot} {j : Row} → Derives text Eols p q → Listed text (Items x y end) kids (at q n xs) v j → Listed text (Until x y end) kids (at p n xs) v j
+unfolding shape
+begun a (listed d f) = listed (until-of a d) f
+
 -- a derivation of a last item, which is not counted
 pub data Ended (text : List ℕ) (y : Sym) (i : Row) : Spot → Spot → Row → Type 0 where
   ended-by : {p q : Place} {n m : ℕ} {xs ys : List ℕ} {j : Row} (d : Derives text y p q)
@@ -118,9 +123,6 @@ module _ (e : Sheet) (x y : Sym) (end : ℕ) where
           (binds e (binds e (sound-last i) (λ j. binds e (eat-eol-sound e) (λ _. binds e (expect-sound e end) (λ _. gives e)))) (λ j. gives e))
           (binds e sound (λ r. binds e (add-sound e (i .kids) r) (λ k. binds e (eat-eol-sound e) (λ _. binds e (eat-sound e end) (λ b. ifs e b (gives e) (binds e (expect-sound e kind.Comma) (λ _. binds e (eat-eol-sound e) (λ _. gives e)))))))))))
 
-      begun : {p q : Place} {n : ℕ} {xs : List ℕ} {v : Spot} {j : Row} → Derives (e .text) Eols p q → Listed (e .text) (Items x y end) kids (at q n xs) v j → Listed (e .text) (Until x y end) kids (at p n xs) v j
-      begun a (listed d f) = listed (until-of a d) f
-
       go : {u v : Spot} {j : Row} → Seq (Lined (e .text)) (λ _. Star (ItemTurn lastKind) (so kids)) u v j → Listed (e .text) (Until x y end) kids u v j
       go (lined a ▸ r) = begun a (all refl r)
 
@@ -144,9 +146,6 @@ module _ (e : Sheet) (x y : Sym) (end : ℕ) where
       turned : (i : Row) → Sound e (UntilTurn i) (untilTurn e item end i)
       turned i = binds e (eat-sound e end) (λ b. ifs e b (gives e)
           (binds e sound (λ r. binds e (add-sound e (i .kids) r) (λ k. binds e (eat-eol-sound e) (λ _. binds e (eat-sound e end) (λ b. ifs e b (gives e) (binds e (expect-sound e kind.Comma) (λ _. binds e (eat-eol-sound e) (λ _. gives e)))))))))
-
-      begun : {p q : Place} {n : ℕ} {xs : List ℕ} {v : Spot} {j : Row} → Derives (e .text) Eols p q → Listed (e .text) (Items x y end) kids (at q n xs) v j → Listed (e .text) (Until x y end) kids (at p n xs) v j
-      begun a (listed d f) = listed (until-of a d) f
 
       go : {u v : Spot} {j : Row} → Seq (Lined (e .text)) (λ _. Star UntilTurn (so kids)) u v j → Listed (e .text) (Until x y end) kids u v j
       go (lined a ▸ r) = begun a (plain refl r)

@@ -40,7 +40,7 @@ use Rattle.grammar.proofs.Links.{placeAt, Settled, kind-place}
 use Rattle.grammar.proofs.Sound.{Spot, at, Claim, Seq, _▸_, Gave, gave, If, Star, halt, turn, holds, EndsBy, Sound, gives, maps, reads, ifs, binds, loops}
 use Rattle.grammar.proofs.SoundSteps.{Bumped, bumped, Added, added-to, add-sound, bump-sound}
 use Rattle.grammar.proofs.SoundValues.{Value, value, wrapped, joined, Started, started, labelled, Closed, closed, start-sound, close-sound}
-use Rattle.grammar.proofs.SoundExprs.{formOf, fits-other, Held, Expressed, expressed, Grown, grown, Tested, tested, test-sound}
+use Rattle.grammar.proofs.SoundExprs.{fits-other, Expressed, expressed, Grown, grown, Tested, tested, test-sound, Headed, onto}
 
 -- a turn: it stops where no operator above the level stands; otherwise the operator, its right operand or type word, and the record over both
 pub data InfixTurn (text : List ℕ) (n : ℕ) (lambda : Bool) (from : ℕ) (x : Expr) : Spot → Spot → Next Expr → Type 0 where
@@ -130,9 +130,8 @@ module _ (e : Sheet) (d : ℕ) (prec : (n : ℕ) (lambda : Bool) → Sound e (Ex
   unfolding precedence shape
   precedence-sound unaries n lambda = maps e (λ u v a c. go c) (binds e (start-sound e) (λ from. binds e (unaries lambda) (λ x. loops e (infix-turn-takes e d from (n + 1) lambda) (infix-sound n lambda from) x)))
     where
-      onto : {p q : Place} {m o last : ℕ} {xs ys : List ℕ} {x z : Expr} {l : Label} {ks : Trees} {v : Spot} (b : Derives (e .text) (Unary lambda (formOf x)) p q) → shape b 0 blank ≡ only (tree l ks)
-          → ((es : List Entry) → Stack xs m es → Held ys o m last x l ks es) → Grown (e .text) (Ops n lambda) (startOf p) x (at q o ys) v z → Expressed (e .text) (Prec n lambda) (at p m xs) v z
-      onto {p} {last = last} {l = l} {ks = ks} b s g (grown c k) = let o = k last l ks in expressed (prec-of b c) (ap (λ z. shape c (startOf p) z) s ∙ o .same) (λ es st. o .push _ es (g es st))
+      headed : Headed (e .text) (Unary lambda) (Prec n lambda) (Ops n lambda)
+      headed = record { both = λ d b. prec-of d b; both-is = λ d b. refl }
 
       go : {u v : Spot} {a : Expr} → Seq Started (λ from. Seq (Expressed (e .text) (Unary lambda)) (λ x. Star (InfixTurn (e .text) n lambda from) x)) u v a → Expressed (e .text) (Prec n lambda) u v a
-      go (started ▸ expressed b s g ▸ r) = onto b s g (operators-read (e .text) n lambda _ r)
+      go (started ▸ expressed b s g ▸ r) = onto headed b s g (operators-read (e .text) n lambda _ r)

@@ -29,7 +29,7 @@ use Rattle.exprs.specs.Primary.{call as call-rule, postfixTurn, primaryOf}
 use Rattle.exprs.specs.Atoms.{atom, primary}
 use Rattle.exprs.specs.Levels.{levels}
 use Rattle.exprs.proofs.Takes.{postfix-turn-takes}
-use Rattle.grammar.specs.Places.{Place, startOf, Tok, Here}
+use Rattle.grammar.specs.Places.{Place, Tok, Here}
 use Rattle.grammar.specs.Symbols.{Until, NoLast, Body, Block, Atom, Primary, Posts, Expr as Whole}
 use Rattle.grammar.specs.Derives.{Derives, NoLambda, no-brace, not-taken, primary-of, call, call-lambda, lambda-alone}
 use Rattle.grammar.specs.Builders.{blank, only, some, made, callOver, covered}
@@ -41,7 +41,7 @@ use Rattle.grammar.proofs.SoundItems.{sofar, Rowed, as-shape, Listed, l
 use Rattle.grammar.proofs.ListShape.{under, behind-none, until-behind}
 use Rattle.grammar.proofs.SoundNames.{Rowing}
 use Rattle.grammar.proofs.SoundEffects.{Becomes, becomes}
-use Rattle.grammar.proofs.SoundExprs.{formOf, fits-call, Held, Expressed, expressed, Grown, grown}
+use Rattle.grammar.proofs.SoundExprs.{fits-call, Held, Expressed, expressed, Headed, onto}
 use Rattle.grammar.proofs.SoundBody.{covered-sound}
 use Rattle.grammar.proofs.SoundTables.{arguments-sound}
 use Rattle.grammar.proofs.SoundMembers.{Lengthened, lengthened, lengthens, PostTurn, goes, posts-read, Accessed, access-sound, access-read}
@@ -167,9 +167,8 @@ module _ (e : Sheet) (d : ℕ) (wholes : (lambda : Bool) → Sound e (Value (e .
   unfolding primary primaryOf shape
   primary-sound atoms lambda = maps e (λ u v a c. go c) (binds e (start-sound e) (λ from. binds e atoms (λ x. loops e (postfix-turn-takes e d from lambda) (turn-sound from lambda) x)))
     where
-      onto : {p q : Place} {m o last : ℕ} {xs ys : List ℕ} {x z : Expr} {l : Label} {ks : Trees} {v : Spot} (b : Derives (e .text) (Atom (formOf x)) p q) → shape b 0 blank ≡ only (tree l ks)
-          → ((es : List Entry) → Stack xs m es → Held ys o m last x l ks es) → Grown (e .text) (Posts lambda) (startOf p) x (at q o ys) v z → Expressed (e .text) (Primary lambda) (at p m xs) v z
-      onto {p} {last = last} {l = l} {ks = ks} b s g (grown c k) = let o = k last l ks in expressed (primary-of b c) (ap (λ z. shape c (startOf p) z) s ∙ o .same) (λ es st. o .push _ es (g es st))
+      headed : Headed (e .text) Atom (Primary lambda) (Posts lambda)
+      headed = record { both = λ d b. primary-of d b; both-is = λ d b. refl }
 
       go : {u v : Spot} {a : Expr} → Seq Started (λ from. Seq (Expressed (e .text) Atom) (λ x. Star (PostTurn (e .text) lambda from) x)) u v a → Expressed (e .text) (Primary lambda) u v a
-      go (started ▸ expressed b s g ▸ r) = onto b s g (posts-read (e .text) lambda _ r)
+      go (started ▸ expressed b s g ▸ r) = onto headed b s g (posts-read (e .text) lambda _ r)

@@ -36,7 +36,7 @@ use Rattle.grammar.proofs.Starts.{starts}
 use Rattle.grammar.proofs.UnambiguousClaims.{Agree, Alike, Sole, UniqueUntil, UniqueStmt, by-brace}
 use Rattle.grammar.proofs.UnambiguousBelow.{Below}
 use Rattle.grammar.proofs.UnambiguousTokens.{step, refuse, sort, sort-lit, eols, ident, lit, value}
-use Rattle.grammar.proofs.UnambiguousLists.{nothing, properties, elements}
+use Rattle.grammar.proofs.UnambiguousLists.{properties, elements}
 use Rattle.grammar.proofs.UnambiguousStmts.{led-body}
 
 module _ {text : List ℕ} where
@@ -86,13 +86,13 @@ module _ {text : List ℕ} where
   -- no table is a block: by what is claimed of the table, and by what is claimed of the block
   no-block : {p q u v w : Place} (d : Derives text (Until Property NoLast kind.CloseBrace) p q) → UniqueUntil (Sole Property) d → Derives text Eols u v → Not kind.CloseBrace v → Derives text (Body kind.CloseBrace) v w → p ≡ u → ⊥
   no-block (g.until-of l (g.items-end a)) b l' h' d' e = refuse h' (a .here) (sym (eols l l' e))
-  no-block (g.until-of l (g.items-last d m c)) b l' h' d' e = nothing d
+  no-block (g.until-of l (g.items-last d m c)) b l' h' d' e = starts d
   no-block (g.until-of l (g.items-final (g.property k x) m c)) b l' h' d' e = led-body k (λ f u v y h. b .first .lead y h) by-brace d' (eols l l' e)
   no-block (g.until-of l (g.items-comma (g.property k x) m c n i)) b l' h' d' e = led-body k (λ f u v y h. b .first .lead y h) by-brace d' (eols l l' e)
 
   no-table : {p q r u v : Place} {d : Derives text (Body kind.CloseBrace) q r} → Derives text Eols p q → Not kind.CloseBrace q → UniqueStmt d → Derives text (Until Property NoLast kind.CloseBrace) u v → p ≡ u → ⊥
   no-table l h b (g.until-of l' (g.items-end a')) e = refuse h (a' .here) (eols l l' e)
-  no-table l h b (g.until-of l' (g.items-last d' m' c')) e = nothing d'
+  no-table l h b (g.until-of l' (g.items-last d' m' c')) e = starts d'
   no-table l h b (g.until-of l' (g.items-final (g.property k' x') m' c')) e = b .keyless k' (eols l l' e)
   no-table l h b (g.until-of l' (g.items-comma (g.property k' x') m' c' n' i')) e = b .keyless k' (eols l l' e)
 

@@ -17,11 +17,11 @@ use Rattle.grammar.specs.Derives as g
 use Rattle.grammar.specs.Builders.{only, made, handled}
 use Rattle.grammar.specs.Shape.{shape}
 use Rattle.grammar.specs.Words.{among}
+use Rattle.grammar.proofs.FirstKinds.{opening-apart}
 use Rattle.grammar.proofs.Starts.{starts}
 use Rattle.grammar.proofs.UnambiguousClaims.{Agree, Alike}
 use Rattle.grammar.proofs.UnambiguousBelow.{Below}
 use Rattle.grammar.proofs.UnambiguousTokens.{step, meet, refuse, value}
-use Rattle.grammar.proofs.UnambiguousLists.{opening-apart}
 
 -- an operator above the level does not stand where none does
 above : {n m k : ℕ} {p u : Place} → levelOf (kindOf p) ≤ n → m < levelOf k → kindOf u ≡ k → n ≡ m → p ≡ u → ⊥

@@ -6,15 +6,14 @@ use mathlib.Core.List.{List}
 use mathlib.Core.Bool.{true}
 use native.Mathlib.Omega.{arith}
 use Rattle.kinds.specs.Number as kind
-use Rattle.kinds.specs.Operators.{levelOf, binaryOf}
+use Rattle.kinds.specs.Operators.{levelOf}
 use Rattle.grammar.specs.Places.{Place, kindOf, Free}
 use Rattle.grammar.specs.Symbols.{Form, Other, Key, Atom, Primary, Prec}
 use Rattle.grammar.specs.Derives.{Derives, NoLambda, openers}
 use Rattle.grammar.specs.Derives as g
 use Rattle.grammar.specs.Words.{among}
-use Rattle.grammar.proofs.Tests.{free}
+use Rattle.grammar.proofs.Tests.{free, elsewhere, colon-level, this}
 use Rattle.grammar.proofs.UnambiguousClaims.{Behind, UniqueAtom, UniquePrec}
-use Rattle.grammar.proofs.UnambiguousLists.{elsewhere}
 use Rattle.grammar.proofs.UnambiguousExprs.{prec, ops, unary, primary}
 use Rattle.grammar.proofs.UnambiguousPosts.{posts}
 
@@ -23,14 +22,10 @@ unfolding among
 no-post-here h = free (ap (λ k. among k openers) h)
 
 no-lambda-here : {p : Place} → kindOf p ≡ kind.Colon → NoLambda true p
-no-lambda-here h = g.no-brace (elsewhere kind.OpenBrace refl (record { stands = h }))
-
-no-level : levelOf kind.Colon ≡ 0
-unfolding levelOf binaryOf
-no-level = refl
+no-lambda-here h = g.no-brace (elsewhere kind.OpenBrace refl (this h))
 
 no-op-here : (p : Place) → kindOf p ≡ kind.Colon → levelOf (kindOf p) ≤ 0
-no-op-here p h = omega (arith, ap levelOf h ∙ no-level)
+no-op-here p h = omega (arith, ap levelOf h ∙ colon-level)
 
 -- the expression that a key is up to its Colon
 pub record Leading (text : List ℕ) (p : Place) : Type 0 where

@@ -1,11 +1,10 @@
 -- Lists are unambiguous: which production it is, its first token tells, and behind an item a Comma or the token that closes it.
 use Prim.Native.Nat.{ℕ}
-use mathlib.Core.Path.{_≡_, refl, sym, _∙_}
+use mathlib.Core.Path.{_≡_, refl, sym}
 use mathlib.Core.List.{List}
 use mathlib.Core.Bool.{true, false}
 use lib.Dec.{eqb}
 use native.Mathlib.Omega.{arith}
-use borrow.Author.Tests.{eqb-false}
 use Rattle.kinds.specs.Number as kind
 use Rattle.cursor.specs.Tree.{none}
 use Rattle.grammar.specs.Places.{Place, spanOf, Here, Not}
@@ -15,7 +14,9 @@ use Rattle.grammar.specs.Derives as g
 use Rattle.grammar.specs.Builders.{more, ending, marked, unmarked}
 use Rattle.grammar.specs.Shape.{shape}
 use Rattle.grammar.specs.Words.{among}
-use Rattle.grammar.proofs.Starts.{Opens, apart, starts}
+use Rattle.grammar.proofs.Tests.{elsewhere}
+use Rattle.grammar.proofs.FirstKinds.{apart, opening-apart}
+use Rattle.grammar.proofs.Starts.{starts}
 use Rattle.grammar.proofs.UnambiguousClaims.{
   Agree,
   Item,
@@ -41,22 +42,12 @@ use Rattle.grammar.proofs.UnambiguousClaims.{
 use Rattle.grammar.proofs.UnambiguousBelow.{Below}
 use Rattle.grammar.proofs.UnambiguousTokens.{step, meet, refuse, eols, longer, value}
 
--- where one kind stands another does not
-pub elsewhere : {k : ℕ} {p : Place} (j : ℕ) → eqb k j ≡ false → Here k p → Not j p
-elsewhere {k} j e h = record { differs = λ q. eqb-false k j e (sym (h .stands) ∙ q) }
-
-pub opening-apart : {ks : List ℕ} {p : Place} (k : ℕ) → Opens ks p → among k ks ≡ false → Not k p
-opening-apart k o e = apart k (record { first = o .first }) e
-
-pub nothing : {text : List ℕ} {p q : Place} → Derives text NoLast p q → ⊥
-nothing d = elim d [ ]
-
 -- the lists of the grammar
 module _ (text : List ℕ) where
   -- what ends with `...` and perhaps an item, or with nothing
   module _ {x : Sym} {end : ℕ} (i : Item x) (first : (p q : Place) → Derives text x p q → Not end p) (comma : end ≡ kind.Comma → ⊥) where
     plain-list : Listed text x NoLast end
-    plain-list = record { item = i; last = no-last; item-first = λ d. first _ _ d; last-first = λ d. absurd (nothing d); apart = λ d e h. nothing e; no-comma = comma }
+    plain-list = record { item = i; last = no-last; item-first = λ d. first _ _ d; last-first = λ d. absurd (starts d); apart = λ d e h. starts e; no-comma = comma }
 
     module _ {y : Sym} (j : Item y) (dots : (p q : Place) → Derives text y p q → Here kind.Ellipsis p) (other : (p q : Place) → Derives text x p q → Not kind.Ellipsis p) (distinct : eqb kind.Ellipsis end ≡ false) where
       dotted-list : Listed text x y end

@@ -16,11 +16,12 @@ use Rattle.grammar.specs.Derives as g
 use Rattle.grammar.specs.Builders.{blank, callOver, memberOver, covered}
 use Rattle.grammar.specs.Shape.{shape}
 use Rattle.grammar.specs.Words.{among}
-use Rattle.grammar.proofs.Starts.{Starts, members, starts}
+use Rattle.grammar.proofs.FirstKinds.{Starts, members, opening-apart}
+use Rattle.grammar.proofs.Starts.{starts}
 use Rattle.grammar.proofs.UnambiguousClaims.{Alike}
 use Rattle.grammar.proofs.UnambiguousBelow.{Below}
 use Rattle.grammar.proofs.UnambiguousTokens.{step, refuse, free-of, ident, value}
-use Rattle.grammar.proofs.UnambiguousLists.{opening-apart, arguments}
+use Rattle.grammar.proofs.UnambiguousLists.{arguments}
 
 -- the kind behind an expression as far as calls and members are told apart by it: all members are one, and a brace is none where no lambda is taken
 abbrev braced : Bool → ℕ → ℕ

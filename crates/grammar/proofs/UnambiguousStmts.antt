@@ -16,11 +16,11 @@ use Rattle.grammar.specs.Derives as g
 use Rattle.grammar.specs.Builders.{blank, more, couple, fnOver, effectOver}
 use Rattle.grammar.specs.Shape.{shape}
 use Rattle.grammar.specs.Words.{among}
-use Rattle.grammar.proofs.Starts.{Starts, Opens, exprs, apart, starts}
+use Rattle.grammar.proofs.FirstKinds.{Starts, Opens, exprs, apart, opening-apart}
+use Rattle.grammar.proofs.Starts.{starts}
 use Rattle.grammar.proofs.UnambiguousClaims.{Behind, Agree, Ending, by-brace, by-input, a-ty}
 use Rattle.grammar.proofs.UnambiguousBelow.{Below}
 use Rattle.grammar.proofs.UnambiguousTokens.{step, meet, refuse, eols, ident, longer, value}
-use Rattle.grammar.proofs.UnambiguousLists.{opening-apart}
 use Rattle.grammar.proofs.UnambiguousKeys.{leading, meets-key}
 use Rattle.grammar.proofs.UnambiguousTails.{TailAt, at-plain, at-assign, at-typed, at-op, at-unpack, at-multi, signSort, tail-sort, begun, no-colon, same-tail}
 

@@ -5,10 +5,11 @@ use Rattle.grammar.specs.Places.{Place}
 use Rattle.grammar.specs.Symbols.{Sym}
 use Rattle.grammar.specs.Symbols as s
 use Rattle.grammar.specs.Derives.{Derives}
+use Rattle.grammar.proofs.Starts.{starts}
 use Rattle.grammar.proofs.UnambiguousClaims.{Sole}
 use Rattle.grammar.proofs.UnambiguousBelow.{Below}
 use Rattle.grammar.proofs.UnambiguousTokens.{all-eols, ident, lit}
-use Rattle.grammar.proofs.UnambiguousLists.{nothing, dots, rest, items, until, first-of, first-until}
+use Rattle.grammar.proofs.UnambiguousLists.{dots, rest, items, until, first-of, first-until}
 use Rattle.grammar.proofs.UnambiguousTypes.{ty, bars, ty-atom, ty-pair, others, returns, typed}
 use Rattle.grammar.proofs.UnambiguousPatterns.{pattern, pattern-pair, patterns, case, cases}
 use Rattle.grammar.proofs.UnambiguousParts.{params, block, function, effect, handler, handlers, names, alternate}
@@ -25,7 +26,7 @@ module _ {text : List ℕ} where
   by-symbol s.Eols p q d b = record { agrees = all-eols d }
   by-symbol (s.Until x y end) p q d b = λ i. record { agrees = until i d b; first = first-until i d b }
   by-symbol (s.Items x y end) p q d b = λ i. record { agrees = items i d b; first = first-of d b }
-  by-symbol s.NoLast p q d b = absurd (nothing d)
+  by-symbol s.NoLast p q d b = absurd (starts d)
   by-symbol s.Dots p q d b = record { agrees = dots d b }
   by-symbol (s.Rest x) p q d b = λ i. record { agrees = rest i d b }
   by-symbol s.Lit p q d b = record { agrees = lit d }

@@ -12,7 +12,8 @@ use Rattle.grammar.specs.Derives as g
 use Rattle.grammar.specs.Builders.{over, couple}
 use Rattle.grammar.specs.Shape.{shape}
 use Rattle.grammar.specs.Words.{among}
-use Rattle.grammar.proofs.Starts.{apart, starts}
+use Rattle.grammar.proofs.FirstKinds.{apart}
+use Rattle.grammar.proofs.Starts.{starts}
 use Rattle.grammar.proofs.UnambiguousClaims.{Agree, Behind}
 use Rattle.grammar.proofs.UnambiguousBelow.{Below}
 use Rattle.grammar.proofs.UnambiguousTokens.{step, refuse, lit, value}

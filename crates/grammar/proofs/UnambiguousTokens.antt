@@ -17,7 +17,7 @@ use Rattle.grammar.specs.Derives as g
 use Rattle.grammar.specs.Builders.{Shape, blank, only, more, made}
 use Rattle.grammar.specs.Shape.{shape}
 use Rattle.grammar.specs.Words.{among}
-use Rattle.grammar.proofs.Starts.{lits, Starts}
+use Rattle.grammar.proofs.FirstKinds.{lits, Starts}
 use Rattle.grammar.proofs.UnambiguousClaims.{Agree}
 
 -- one token further from one place

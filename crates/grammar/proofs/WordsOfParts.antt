@@ -31,7 +31,8 @@ use Rattle.grammar.specs.Derives as by
 use Rattle.grammar.specs.Builders.{Shape, blank, covered, handled}
 use Rattle.grammar.specs.Shape.{shape}
 use Rattle.grammar.specs.Words.{among, wordKinds, wordRecords}
-use Rattle.grammar.proofs.Starts.{lits, starts}
+use Rattle.grammar.proofs.FirstKinds.{lits}
+use Rattle.grammar.proofs.Starts.{starts}
 use Rattle.grammar.proofs.WordsOfTokens.{word-end}
 use Rattle.grammar.proofs.WordsOf.{Adds, still, _▹_, also, token, Plain, under, inside, Word, word, type-word}
 use Rattle.grammar.proofs.WordsOfCalls.{One, one}

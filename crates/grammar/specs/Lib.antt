@@ -5,6 +5,5 @@ pub mod Builders
 pub mod Shape
 pub mod Follows
 pub mod Words
-pub mod Marks
 pub mod Records
 pub mod Depth

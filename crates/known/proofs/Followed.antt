@@ -6,7 +6,7 @@ use mathlib.Core.List.{List, map}
 use native.Mathlib.Omega.{arith}
 use lib.ListN.{length, replicate, length-replicate, getD}
 use Rattle.grammar.specs.Follows.{Follows}
-use Rattle.grammar.specs.Marks.{marks, readings}
+use Rattle.marks.specs.Marks.{marks, readings}
 use Rattle.parser.specs.Parse.{parse}
 use Rattle.parser.specs.Demands.{Clean}
 use Rattle.parser.proofs.Promises.{sound, complete, readings-summed}

@@ -15,11 +15,11 @@ use Rattle.exprs.specs.Levels.{under, program}
 use Rattle.grammar.specs.Follows.{Follows}
 use Rattle.grammar.specs.Records.{records}
 use Rattle.grammar.specs.Depth.{need}
-use Rattle.grammar.specs.Marks.{marks, readings}
 use Rattle.grammar.proofs.Cost.{cost}
-use Rattle.grammar.proofs.Marked.{cost-marks}
 use Rattle.grammar.proofs.Meets.{few-nodes, few-levels, few-reads, full}
 use Rattle.grammar.proofs.MeetsProgram.{Finds, finds, lacks, program-meets}
+use Rattle.marks.specs.Marks.{marks, readings}
+use Rattle.marks.proofs.Marked.{cost-marks}
 use Rattle.live.proofs.Program.{program-bounded}
 use Rattle.parser.specs.Blank.{blank}
 use Rattle.parser.specs.Outcome.{Outcome}

@@ -6,7 +6,7 @@ use Prim.Native.Nat.{ℕ}
 use Rattle.grammar.specs.Places.{tokensOf}
 use Rattle.grammar.specs.Follows.{Follows, treeOf}
 use Rattle.grammar.specs.Words.{tokenWords, words}
-use Rattle.grammar.specs.Marks.{marks, readings}
+use Rattle.marks.specs.Marks.{marks, readings}
 use Rattle.parser.specs.Outcome.{Outcome}
 use Rattle.parser.specs.Parse.{parse}
 use Rattle.parser.specs.Demands.{Clean, treeIn, Roomy, Weighed}

@@ -1,7 +1,7 @@
 -- What is told of a reading whose buffers were cleared past its counts, or all over.
 use mathlib.Core.Path.{_≡_, refl, sym, ap, _∙_}
 use mathlib.Core.List.{List}
-use Prim.Native.Nat.{ℕ, _*_}
+use Prim.Native.Nat.{ℕ, _*_, _<_}
 use Rattle.cursor.specs.declared.State.{State}
 use Rattle.cursor.specs.declared.Fault.{Fault}
 use Rattle.cursor.specs.declared.Failure.{Failure}
@@ -12,11 +12,15 @@ use Rattle.cursor.specs.Layout.{nodeWords, errorWords}
 use Rattle.parser.specs.declared.Answer.the-variants as answers
 use Rattle.parser.specs.Blank.{upTo}
 use Rattle.parser.specs.Outcome.{Outcome, told}
-use Rattle.parser.specs.Finish.{never, trimmed, finished}
+use Rattle.parser.specs.Finish.{Numbered, never, trimmed, finished}
 
 -- the same number and counts over other words
 pub over : {a b : Outcome} → a .number ≡ b .number → a .reads ≡ b .reads → a .nodes ≡ b .nodes → a .errors ≡ b .errors → a .expected ≡ b .expected → a .records ≡ b .records → a .faults ≡ b .faults → a .kinds ≡ b .kinds → a ≡ b
 over k r n e x ns es xs = λ j. record { number = k j; reads = r j; nodes = n j; errors = e j; expected = x j; records = ns j; faults = es j; kinds = xs j }
+
+-- the number of a refusal that has one
+pub numbered-is : {f : Failure} {k : ℕ} → f ≡ failures.Refused k → Numbered f → k < 256
+numbered-is p h = rw p at h
 
 module _ (n e x : List ℕ) {n1 e1 x1 : List ℕ} where
   pub read-is : (s : State) → n1 ≡ upTo (nodeWords * s .nodes) n → e1 ≡ upTo (errorWords * s .errors) e → x1 ≡ upTo (s .wanted) x

@@ -6,19 +6,22 @@ use Prim.Native.Nat.{ℕ, _<_}
 use native.Mathlib.Omega.{arith}
 use lib.ListN.{length, replicate, length-replicate}
 use Rattle.cursor.specs.declared.State.{State}
-use Rattle.cursor.specs.Rule.{World, world, Stop, Out, done, failed}
+use Rattle.cursor.specs.declared.Failure.{Failure}
+use Rattle.cursor.specs.declared.Failure.the-variants as failures
+use Rattle.cursor.specs.Rule.{World, world, Stop, fault, refused, Out, done, failed}
+use Rattle.cursor.specs.Answers.{asStop}
 use Rattle.cursor.specs.Checks.{liveRoom}
 use Rattle.cursor.proofs.Keeps.{Mark, mark, mark-stands, Same}
 use Rattle.entry.specs.declared.Refusal.{Refusal}
 use Rattle.entry.specs.declared.Entry.the-variants as entries
 use Rattle.entry.specs.Check.{refusalNumber, entryOf}
 use Rattle.exprs.specs.Levels.{under, program}
-use Rattle.blind.proofs.Blind.{Twin, Twins, well, ill, cut}
+use Rattle.blind.proofs.Blind.{no-node, no-error, too-deep, all-spent, too-many-kinds, Twin, Twins, well, ill, cut}
 use Rattle.blind.proofs.Program.{program-blind}
 use Rattle.parser.specs.declared.Answer.the-variants as answers
 use Rattle.parser.specs.Blank.{upTo, blank}
 use Rattle.parser.specs.Outcome.{Outcome, unread, told}
-use Rattle.parser.specs.Finish.{trimmed, finished}
+use Rattle.parser.specs.Finish.{Numbered, trimmed, finished}
 use Rattle.parser.specs.Parse.{begin, within, reading, parse}
 use Rattle.parser.proofs.Blanks.{up-to-none, up-to-same}
 use Rattle.parser.proofs.FinishPaths.{over}
@@ -32,6 +35,30 @@ unfolding finished
 finished-same n e x (well h t) = over refl refl refl refl refl (same-up-to (t .nodes)) (same-up-to (t .errors)) (same-up-to (t .expected))
 finished-same n e x (ill h t) = refl
 finished-same n e x (cut p) = refl
+
+-- the number of a refusal is one of the document's
+pub number : Stop → ℕ
+number (fault s w f) = 0
+number (refused k) = k
+
+ending : Out ℕ → ℕ
+ending (done s w link) = 0
+ending (failed z) = number z
+
+ending-short : {m : Mark} {o p : Out ℕ} → Twins m o p → ending o < 256
+unfolding ending number
+ending-short (well h t) = omega arith
+ending-short (ill h t) = omega arith
+ending-short (cut no-node) = omega arith
+ending-short (cut no-error) = omega arith
+ending-short (cut too-deep) = omega arith
+ending-short (cut all-spent) = omega arith
+ending-short (cut too-many-kinds) = omega arith
+
+pub numbered : (f : Failure) (w : World) → number (asStop f w) < 256 → Numbered f
+unfolding number
+numbered (failures.Refused n) w h = h
+numbered (failures.Fault s g) w h = tt
 
 none-below : {xs ys : List ℕ} → length ys ≡ length xs → Same 0 xs ys
 none-below l = record { long = l; below = λ i h. absurd (omega (arith, h)) }
@@ -47,9 +74,16 @@ module _ (text tokens : List ℕ) (allowance : ℕ) (n e x live : List ℕ) (roo
   twin : Twin begin (world n e x live) (world (blank n) (blank e) (blank x) (replicate liveRoom 0))
   twin = record { nodes = blank-below n; errors = blank-below e; expected = blank-below x; live = none-below (length-replicate {A = ℕ} liveRoom 0 ∙ sym room) }
 
+  twins : Twins (mark begin) (program (under text tokens (within allowance)) begin (world n e x live)) (program (under text tokens (within allowance)) begin (world (blank n) (blank e) (blank x) (replicate liveRoom 0)))
+  twins = program-blind _ _ .ends (mark begin) begin _ _ (mark-stands begin) twin
+
+  pub refused-short : {z : Stop} → program (under text tokens (within allowance)) begin (world n e x live) ≡ failed z → number z < 256
+  unfolding ending
+  refused-short p = let h = ending-short twins in rw p at h
+
   read-as-blank : finished (blank n) (blank e) (blank x) (program (under text tokens (within allowance)) begin (world n e x live)) ≡ reading text tokens allowance (blank n) (blank e) (blank x)
   unfolding reading
-  read-as-blank = finished-same (blank n) (blank e) (blank x) (program-blind _ _ .ends (mark begin) begin _ _ (mark-stands begin) twin)
+  read-as-blank = finished-same (blank n) (blank e) (blank x) twins
 
   module _ (fit : entryOf text tokens ≡ entries.Fit) where
     parsed : parse text tokens allowance n e x ≡ reading text tokens allowance (blank n) (blank e) (blank x)

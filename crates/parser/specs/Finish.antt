@@ -1,11 +1,18 @@
 -- What the end of the program's rule comes to.
-use Prim.Native.Nat.{ℕ, _*_}
+use Prim.Native.Nat.{ℕ, _*_, _<_}
 use mathlib.Core.List.{List}
 use Rattle.cursor.specs.declared.State.{State}
+use Rattle.cursor.specs.declared.Failure.{Failure}
+use Rattle.cursor.specs.declared.Failure.the-variants as failures
 use Rattle.cursor.specs.Layout.{nodeWords, errorWords}
 use Rattle.cursor.specs.Rule.{fault, refused, Out, done, failed}
 use Rattle.parser.specs.Blank.{upTo}
 use Rattle.parser.specs.Outcome.{Outcome, unread}
+
+-- a refusal whose number is a byte's, as the document's are
+abbrev pub Numbered : Failure → Type 0
+Numbered (failures.Refused k) = k < 256
+Numbered (failures.Fault s f) = Unit
 
 -- a reading that is done: its counts, and the buffers with nothing past them
 abbrev pub trimmed : State → List ℕ → List ℕ → List ℕ → Outcome

@@ -7,11 +7,11 @@ ghost use Rattle.cursor.specs.Rule.{world, failed};
 ghost use Rattle.cursor.specs.Answers.{asStop};
 ghost use Rattle.parser.specs.Blank.{upTo};
 ghost use Rattle.parser.specs.Outcome.{told, apart, handed, handing};
-ghost use Rattle.parser.specs.Finish.{trimmed, finished};
+ghost use Rattle.parser.specs.Finish.{Numbered, trimmed, finished};
 ghost use Rattle.grammar.specs.Places.{tokensOf};
 ghost use Rattle.grammar.specs.Follows.{Follows, treeOf};
 ghost use Rattle.grammar.specs.Words.{tokenWords, words};
-ghost use Rattle.grammar.specs.Marks.{marks, readings};
+ghost use Rattle.marks.specs.Marks.{marks, readings};
 ghost use Rattle.parser.specs.Demands.{Clean, treeIn, Roomy, Weighed};
 ghost use Rattle.parser.specs.Parse.{parse};
 use clear::clear_bytes;
@@ -83,13 +83,14 @@ fn read(nodes: &mut [u32], errors: &mut [u32], expected: &mut [u8], s: State) ->
 
 // Clears all, and tells the refusal's number. A program never ends in an error of its own, since its statements log theirs.
 fn refuse(nodes: &mut [u32], errors: &mut [u32], expected: &mut [u8], failure: Failure) -> Answer
+    requires { ⌜ Numbered failure ⌝ }
     ensures { λ r. ⌜ ((l : List ℕ) → told r (now (nodes .exit)) (now (errors .exit)) (now (expected .exit)) ≡ finished (upTo 0 (now (nodes .entry))) (upTo 0 (now (errors .entry))) (upTo 0 (now (expected .entry))) (failed (asStop failure (world (now (nodes .entry)) (now (errors .entry)) (now (expected .entry)) l)))) ⌝ }
 {
     clear_words(nodes, 0);
     clear_words(errors, 0);
     clear_bytes(expected, 0);
     match failure {
-        Failure::Refused(n) => Answer::Refused(n),
+        Failure::Refused(n) => Answer::Refused(n as u8),
         Failure::Fault(_, _) => Answer::Refused(NEVER),
     }
 }

@@ -1,5 +1,5 @@
 -- `parse` meets its contract: the entry check decides, and the program's rule is blind to what the buffers held.
-use Rattle.parser.proofs.ParsePaths.{unfit-on, read-on, refused-on}
+use Rattle.parser.proofs.ParsePaths.{unfit-on, read-on, numbered, refused-short, refused-on}
 use Rattle.parser.proofs.Contract.{demands}
 use Rattle.cursor.specs.Answers.{asBuilt}
 use Rattle.cursor.proofs.CheckPaths.{via}
@@ -9,6 +9,9 @@ use Rattle.parser.proofs.parse.Tie as tie
 
 returns : tie.Need-returns
 returns c = demands _ _ _ _ _ _ (unfit-on _ _ _ _ _ _ (sym (c .before .before .before .before .entry-check .ensures) ∙ c .before .before .fit .given .1) (c .refusal-number .ensures))
+
+refuse-requires : tie.Need-refuse-requires
+refuse-requires c κs = let c₁ = c .before .before .before .before in let c₂ = c₁ .before .before .before .before .before .before .before .before in numbered (c₁ .got2 .given .0 .0) _ (refused-short _ _ _ _ _ _ _ refl (via asBuilt (c₂ .program .ensures) (c₁ .got2 .given .1)))
 
 returns-2 : tie.Need-returns-2
 returns-2 c = let c₁ = c .before .before .before .before .before .before in let c₂ = c₁ .before .before .before .before .before in let c₃ = c₂ .before .before .before .before .before .before .before .before in let c₄ = c₃ .before .before .before .before .before in let c₅ = c₄ .before .before in demands _ _ _ _ _ _ (c₁ .read .ensures ∙ read-on _ _ _ _ _ _ _ refl (sym (c₅ .entry-check .ensures) ∙ c₄ .enum-told .given .1) (via asBuilt (c₃ .program .ensures) (c₂ .got .given .1)))
@@ -28,7 +31,7 @@ parse-spec =
     (λ c. c .match2 .keys1)
     (λ c κs. tt)
     (λ c. c .match2 .keys2)
-    (λ c κs. tt)
+    refuse-requires
     (λ c. let c₁ = c .before .before .before .before .before .before in let c₂ = c₁ .before .before .before .before .before .before .before .before .before .before .before .before .before in (c₁ .read .kept .0) ∙ (c₂ .program .kept .1 .1 .0))
     (λ c. let c₁ = c .before .before .before .before .before .before in let c₂ = c₁ .before .before .before .before .before .before .before .before .before .before .before .before .before in (c₁ .read .kept .1 .0) ∙ (c₂ .program .kept .1 .1 .1 .0))
     (λ c. let c₁ = c .before .before .before .before .before .before in let c₂ = c₁ .before .before .before .before .before .before .before .before .before .before .before .before .before in (c₁ .read .kept .1 .1 .0) ∙ (c₂ .program .kept .1 .1 .1 .1 .0))

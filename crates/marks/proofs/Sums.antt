@@ -2,20 +2,15 @@
 use Prim.Native.Nat.{ℕ, suc, _+_, _*_, _^_}
 use native.Mathlib.Nat.{pow-succ'}
 use native.Mathlib.Omega.{arith}
-use mathlib.Core.Path.{_≡_, refl, sym, ap, _∙_}
+use mathlib.Core.Path.{_≡_, refl, ap, _∙_}
 use mathlib.Core.List.{List, [], _∷_, _++_}
-use mathlib.Core.Bool.{true, false, true≢false}
-use lib.Dec.{eqb}
-use borrow.Author.Tests.{eqb-false}
 use Rattle.kinds.specs.Number as kind
-use Rattle.grammar.specs.Places.{Token, Place, kindIn, kindOf, Tok}
-use Rattle.grammar.specs.Symbols.{Lit, Stmt, Stmts, Body}
+use Rattle.grammar.specs.Places.{Token, Place, Tok}
+use Rattle.grammar.specs.Symbols.{Stmt, Stmts, Body}
 use Rattle.grammar.specs.Derives.{Derives}
 use Rattle.grammar.specs.Derives as by
-use Rattle.grammar.specs.Words.{among}
-use Rattle.grammar.specs.Marks.{Stand, Leading, First, Within, opening, again, asKey, asName, markIn, mark, token, readings}
-use Rattle.grammar.proofs.Starts.{lits, starts}
-use Rattle.grammar.proofs.Cost.{takenIn, taken, spent, Costs, flat, keyed, nameless, fronted, opened, costs}
+use Rattle.grammar.proofs.Cost.{takenIn, taken, spent, one-spent, Costs, flat, keyed, nameless, fronted, opened, costs}
+use Rattle.marks.specs.Marks.{Stand, Leading, First, Within, opening, again, asKey, asName, markIn, mark, token, readings}
 
 -- tokens with these marks are read so often
 pub record Sums (ms : List ℕ) (n : ℕ) : Type 0 where
@@ -100,29 +95,16 @@ as-key Leading {ms = ms} s e = record { sum = let i = readings-again ms in omega
 as-key First s e = record { sum = omega (arith, s .sum) }
 as-key Within s e = s
 
--- a token of a kind other than Eof is there
-in-kind : (ts : List Token) → (kindIn ts ≡ kind.Eof → ⊥) → takenIn ts ≡ 1
-in-kind [] h = absurd (h refl)
-in-kind (t ∷ ts) h = refl
-
-there : {k : ℕ} {p q : Place} (t : Tok k p q) → eqb k kind.Eof ≡ false → spent t ≡ 1
-unfolding kindOf
-there {k} {p} t e = in-kind (p .rest) (λ q. eqb-false k kind.Eof e (sym (t .here) ∙ q))
-
 pub group-key : {p q r s : Place} (a : Tok kind.OpenParen p q) (n : ℕ) (b : Tok kind.CloseParen r s) → 2 + n ≡ spent a + n + spent b
-group-key a n b = let i = there a refl in let j = there b refl in omega (arith, i, j)
-
-pub literal-key : {text : List ℕ} {p q : Place} (d : Derives text Lit p q) → 1 ≡ costs d .whole
-unfolding costs kindOf among
-literal-key {p = p} (by.a-literal a b) = sym (in-kind (p .rest) (λ q. true≢false (sym (starts (by.a-literal a b) .first) ∙ ap (λ k. among k lits) q)))
+group-key a n b = let i = one-spent a refl in let j = one-spent b refl in omega (arith, i, j)
 
 -- so is a `fn` that opens a statement
 twice : {k : ℕ} {p q : Place} (t : Tok k p q) → Sums (again (token t)) (spent t + spent t)
 twice t = record { sum = let i = readings-again (token t) in let j = taking t .sum in omega (arith, i, j) }
 
 pub as-name : (at : Stand) {p q : Place} {ms : List ℕ} {n : ℕ} (a : Tok kind.Fn p q) → Sums ms n → Sums (asName at (token a) ++ ms) (total at (nameless (spent a + n)))
-as-name Leading a s = let i = there a refl in record { sum = let e = (twice a ⊕ s) .sum in omega (arith, e, i) }
-as-name First a s = let i = there a refl in record { sum = let e = (twice a ⊕ s) .sum in omega (arith, e, i) }
+as-name Leading a s = let i = one-spent a refl in record { sum = let e = (twice a ⊕ s) .sum in omega (arith, e, i) }
+as-name First a s = let i = one-spent a refl in record { sum = let e = (twice a ⊕ s) .sum in omega (arith, e, i) }
 as-name Within a s = taking a ⊕ s
 
 -- no `fn` is left over at the front of statements

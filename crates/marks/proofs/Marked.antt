@@ -2,14 +2,15 @@
 use Prim.Native.Nat.{ℕ}
 use mathlib.Core.Path.{_≡_, sym}
 use mathlib.Core.List.{List}
 use Rattle.grammar.specs.Places.{Place}
 use Rattle.grammar.specs.Symbols.{Sym}
 use Rattle.grammar.specs.Derives.{Derives}
 use Rattle.grammar.specs.Derives as by
 use Rattle.grammar.specs.Follows.{Follows}
-use Rattle.grammar.specs.Marks.{Stand, Leading, Within, opening, marksAt, marks, readings}
 use Rattle.grammar.proofs.Cost.{costs, cost}
-use Rattle.grammar.proofs.MarkSums.{Sums, total, none, place, taking, _⊕_, level, front, behind, opens, as-key, group-key, literal-key, as-name, in-block}
+use Rattle.grammar.proofs.Leading.{literal-reads}
+use Rattle.marks.specs.Marks.{Stand, Leading, Within, opening, marksAt, marks, readings}
+use Rattle.marks.proofs.Sums.{Sums, total, none, place, taking, _⊕_, level, front, behind, opens, as-key, group-key, as-name, in-block}
 
 pub marked : {text : List ℕ} {y : Sym} {p q : Place} (at : Stand) (d : Derives text y p q) → Sums (marksAt at d) (total at (costs d))
 unfolding marksAt costs
@@ -116,7 +117,7 @@ marked at (by.name d) = level at (marked Within d)
 marked at (by.table a d) = level at (taking a ⊕ marked Within d)
 marked at (by.block-expr a e h d) = level at (taking a ⊕ marked Within e ⊕ in-block d (marked Leading d))
 marked at (by.list a d) = level at (taking a ⊕ marked Within d)
-marked at (by.atom-literal d) = as-key at (marked Within d) (literal-key d)
+marked at (by.atom-literal d) = as-key at (marked Within d) (literal-reads d)
 marked at (by.fn-expr a d) = as-name at a (marked Within d)
 marked at (by.closure-expr d) = level at (marked Within d)
 marked at (by.do-expr a d) = level at (taking a ⊕ marked Within d)

@@ -4,12 +4,12 @@ use native.Mathlib.Omega.{arith}
 use mathlib.Core.Path.{_≡_, refl, sym, ap, _∙_}
 use mathlib.Core.List.{List, [], _∷_, _++_}
 use lib.ListN.{length, length-append}
 use Rattle.grammar.specs.Places.{Token, Place, past, after, Tok, before, tokensOf, significant}
 use Rattle.grammar.specs.Symbols.{Sym}
 use Rattle.grammar.specs.Derives.{Derives}
 use Rattle.grammar.specs.Derives as by
 use Rattle.grammar.specs.Follows.{Follows}
-use Rattle.grammar.specs.Marks.{Stand, Leading, First, Within, opening, again, asKey, asName, markIn, mark, token, marksAt, marks}
+use Rattle.marks.specs.Marks.{Stand, Leading, First, Within, opening, again, asKey, asName, markIn, mark, token, marksAt, marks}
 
 -- as many as tokens stand between two places
 pub record Covers (ms : List ℕ) (p q : Place) : Type 0 where

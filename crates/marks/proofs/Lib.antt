@@ -1,0 +1,4 @@
+pub mod Sums
+pub mod Marked
+pub mod Lengths
+pub mod Examples
