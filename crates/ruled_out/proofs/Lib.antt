@@ -1,0 +1,10 @@
+pub mod Small
+pub mod Exprs
+pub mod Items
+pub mod Types
+pub mod Records
+pub mod Steps
+pub mod Statements
+pub mod Pages
+pub mod Listing
+pub mod Entry

@@ -1,0 +1,1 @@
+// Wrong answers that the contracts of other crates rule out: proofs alone.
