@@ -1,7 +1,8 @@
 #!/bin/sh
-# bench.sh [--counts|--across]: the library and the original on the same sheets, as a table in markdown. On x86-64 time and executed instructions for a
+# bench.sh [--counts|--across|--native]: the library and the original on the same sheets, as a table in markdown. On x86-64 time and executed instructions for a
 # token, both in one process; --counts leaves the times out. Elsewhere, or with --across, instructions only: the library's are those of
 # an x86-64 program, under the kit's emulator where that is needed, the original's native ones.
+# --native, for Arm: times alone, with the library's module compiled for this machine (linked/native.sh), which is not what a till links.
 # PARSER_LIB names the archive (linked/build.sh). Needs LUCIA_SRC for the first build of the oracle, and valgrind, which it installs where it is missing.
 set -eu
 cd "$(dirname "$0")"
@@ -24,6 +25,17 @@ counted() { # PROGRAM
     done > "$room/totals"
 }
 
+if [ "${1:-}" = --native ]; then
+    linked/native.sh target/native/libparser.a
+    PARSER_LIB=target/native/libparser.a linked/build.sh bench
+    echo "| class | tokens | ours, ns | ours, 8,192 records lent | original, ns | ratio | ratio, 8,192 lent |"
+    echo "|---|---|---|---|---|---|---|"
+    target/bin/bench times | awk '{ printf "| %s | %d | %s | %s | %s | %.2f | %.2f |\n", $1, $2, $3, $4, $5, $3 / $5, $4 / $5 }'
+    echo
+    echo "For a token of the list, on $(uname -m), both compiled for it. Ratios are ours over the original's."
+    exit
+fi
+
 if [ "$(uname -m)" = x86_64 ] && [ "${1:-}" != --across ]; then
     linked/build.sh bench ${BENCH_STANDIN:+--standin}
     bench=target/bin/bench${BENCH_STANDIN:+-standin}
@@ -44,26 +56,28 @@ if [ "$(uname -m)" = x86_64 ] && [ "${1:-}" != --across ]; then
     exit
 fi
 
-# On Arm the archive links into no native program: it is linked into an x86-64 one by the kit's own compiler.
+# On Arm the archive links into no native program: it is linked into an x86-64 one by the kit's own compiler. Callgrind misses there that a function returns, so
+# both sides are counted as what a program executes with the work less what it executes without.
 [ -f target/crates/liblucia.rlib ] || ./build.sh
 rustc --edition 2024 -O --cfg alone -L target/crates --extern lucia=target/crates/liblucia.rlib --crate-name bench linked/bench.rs -o target/bin/bench-alone
-counted target/bin/bench-alone
+original() { # CLASS SIZE [WORD]
+    valgrind --tool=callgrind --callgrind-out-file=/dev/null target/bin/bench-alone once "$@" 2>&1 > /dev/null | sed -n 's/.*Collected : //p'
+}
 linked/once.sh "$room/once"
 target/bin/bench-alone write "$room/sheets" > "$room/written"
 echo "| class | tokens | ours, x86-64 instructions | ours, 8,192 records lent | original, $(uname -m) instructions | ratio | ratio, 8,192 lent |"
 echo "|---|---|---|---|---|---|---|"
 while read -r class size tokens; do
-    read -r theirs <&3
-    read -r _ _ all <&4
+    theirs=$(($(original "$class" "$size" word) - $(original "$class" "$size")))
     set --
     for form in "" -large; do
         with=$(linked/instructions "$room/once" word < "$room/sheets/$class-$size$form")
         without=$(linked/instructions "$room/once" < "$room/sheets/$class-$size$form")
         set -- "$@" "$((with - without))"
     done
-    echo "$class $size $tokens $1 $2 $theirs $all" |
-        awk '{ o = $4 / $3; l = $5 / $3; t = $6 / $7; printf "| %s | %d | %.0f | %.0f | %.0f | %.2f | %.2f |\n", $1, $2, o, l, t, o / t, l / t }'
-done < "$room/written" 3< "$room/totals" 4< "$room/rows"
+    echo "$class $size $tokens $1 $2 $theirs" |
+        awk '{ o = $4 / $3; l = $5 / $3; t = $6 / $3; printf "| %s | %d | %.0f | %.0f | %.0f | %.2f | %.2f |\n", $1, $2, o, l, t, o / t, l / t }'
+done < "$room/written"
 echo
 echo "For a token of the list, trivia too. No time is given: under an emulator it says nothing."
 [ "$(uname -m)" = x86_64 ] ||

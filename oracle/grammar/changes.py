@@ -32,13 +32,16 @@ CHANGES = [
     ('Derives.antt', ' ∷ kind.RemAssign ∷ []', ' ∷ []'),
     ('Derives.antt', 'Compound kind.SubAssign kind.Sub', 'Compound kind.SubAssign kind.Add'),
     ('Symbols.antt', '  a-member : Assignable NameMember\n', ''),
+    # a condition that always holds, since no expression begins with a comma: the clause in Shape.antt takes its parts by their places
+    ('Derives.antt', '{p q r s t u : Place} → Derives text (Prec 0 true f) p q → Assignable f → ',
+     '{p q r s t u : Place} → Derives text (Prec 0 true f) p q → Not kind.Comma p → '),
     # trees: flags, ranges, words, order
     ('Shape.antt', '(flagged 0 0 true false)', '(flagged 0 0 false true)'),
     ('Shape.antt', '(shape e 0 blank) true false', '(shape e 0 blank) false false'),
     ('Shape.antt', 'blank true true', 'blank true false'),
     ('Shape.antt', 'rowOver node.Block (startOf q) r (shape d 0 blank)', 'rowOver node.Block (startOf r) r (shape d 0 blank)'),
     ('Shape.antt', 'made node.TypeCheck x r word', 'made node.TypeCheck x q word'),
-    ('Shape.antt', 'shape (group-key {p = p} {s = s} a d b c)', 'shape (group-key {p = p} {t = s} a d b c)'),
+    ('Shape.antt', 'shape (by.group-key {p = p} {s = s} a d b c)', 'shape (by.group-key {p = p} {t = s} a d b c)'),
     ('Shape.antt', 'marked none (spanOf p)', 'marked none unmarked'),
     ('Builders.antt', '(flagged (i .count) 0 (isEnded (i .last)) (some (r .row)))', '(flagged (i .count) 0 (isEnded (i .last)) false)'),
     ('Builders.antt', '(join (lefts .row) (rights .row))', '(join (rights .row) (lefts .row))'),

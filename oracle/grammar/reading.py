@@ -161,13 +161,13 @@ def ordered(premises, known):
 
 
 def shapes(folder, constants):
-    """The clause of each production."""
+    """The clause of each production, which Shape.antt calls `by.` and its name."""
     found = {}
     for (pattern, at, before), body in defined(folder, 'Shape.antt', constants)['shape']:
         assert (at, before) == ('x', 'so'), pattern
         name, *rest = pattern if isinstance(pattern, tuple) else (pattern,)
         settled = [part[1][1:] for part in rest if part[0] == '{}']
-        found[name] = Clause(settled, [part for part in rest if part[0] != '{}'], body)
+        found[name.removeprefix('by.')] = Clause(settled, [part for part in rest if part[0] != '{}'], body)
     return found
 
 

@@ -54,7 +54,7 @@ fn spellings() -> Vec<Vec<u8>> {
     let mut all: Vec<Vec<u8>> = Vec::new();
     let mut add = |s: &[u8]| all.push(s.to_vec());
 
-    // those that docs/01-scope.md and its readers name
+    // those that the customer's document and its readers name
     for s in [
         "9223372036854775807", "9223372036854775808", "-9223372036854775808", "-9223372036854775809", "+9223372036854775807",
         "+9223372036854775808", "0x-1", "0_x1", "0_x_1", "_0_x_1_", "0x+_1", "0x_-_1", "+", "-", "0x", "0o", "0b", "0x+", "0x-", "0b-",

@@ -1,5 +1,7 @@
 //! bench times: how long the library and the original take for a token, on the same sheets. A row for each class and size.
 //! bench counted: runs each side once over the sheets of each row, for callgrind to count: `counted` is what it collects and dumps at.
+//! bench once CLASS SIZE [WORD]: the original alone on the sheets that `write` writes for that row, run with a word and only made without: what it executes with
+//! one less what it executes without is what the original does.
 //! bench write FOLDER: the sheets of each row as once.c reads them, CLASS-SIZE for buffers just large enough, CLASS-SIZE-large for large ones.
 //!
 //! A token is one of the list, trivia too. All sheets are inside the domain and are read. The library checks text and tokens first, which the original
@@ -111,20 +113,18 @@ fn job(class: &str, bundle: Bundle) -> Option<Job> {
     Some(Job { words: bundle.triples().into_flattened(), bundle, need })
 }
 
-/// Some 16,000 tokens a row.
-fn rows() -> Vec<Row> {
-    let mut rows = Vec::new();
-    for class in CLASSES {
-        for size in SIZES {
-            let mut chance = Chance::new(size as u64);
-            let mut jobs = Vec::new();
-            while jobs.len() < 16_384_usize.div_ceil(size) {
-                jobs.extend(job(class, filled(class, size, &mut chance)));
-            }
-            rows.push(Row { class, size, jobs });
-        }
+/// Some 16,000 tokens.
+fn row(class: &'static str, size: usize) -> Row {
+    let mut chance = Chance::new(size as u64);
+    let mut jobs = Vec::new();
+    while jobs.len() < 16_384_usize.div_ceil(size) {
+        jobs.extend(job(class, filled(class, size, &mut chance)));
     }
-    rows
+    Row { class, size, jobs }
+}
+
+fn rows() -> Vec<Row> {
+    CLASSES.iter().flat_map(|class| SIZES.map(|size| row(class, size))).collect()
 }
 
 impl Row {
@@ -134,6 +134,11 @@ impl Row {
 
     fn sheets(&self) -> Vec<Sheet<'_>> {
         self.jobs.iter().map(|job| enter(&job.bundle).ok().expect("it was read")).collect()
+    }
+
+    /// The sheets that are counted one instruction at a time: an emulator's log has a line for each, so there are fewer than in process.
+    fn few(&self) -> usize {
+        4_096_usize.div_ceil(self.size)
     }
 }
 
@@ -211,8 +216,7 @@ fn write(folder: &str) {
     fs::create_dir_all(folder).expect("a folder");
     for row in rows() {
         for large in [false, true] {
-            // The emulator's log has a line for each instruction, so there are fewer sheets than in process.
-            let jobs = &row.jobs[..4_096_usize.div_ceil(row.size)];
+            let jobs = &row.jobs[..row.few()];
             let mut words = vec![jobs.len() as u32];
             for job in jobs {
                 let [n, e, k] = if large { LARGE } else { job.need };
@@ -226,8 +230,17 @@ fn write(folder: &str) {
             let bytes: Vec<u8> = words.iter().flat_map(|word| word.to_le_bytes()).collect();
             fs::write(name, bytes).expect("a file");
         }
-        let tokens = 4_096_usize.div_ceil(row.size) * row.size;
-        println!("{} {} {}", row.class, row.size, tokens);
+        println!("{} {} {}", row.class, row.size, row.few() * row.size);
+    }
+}
+
+fn once(class: &str, size: usize, run: bool) {
+    let class = CLASSES.into_iter().find(|known| *known == class).expect("a class");
+    let row = row(class, size);
+    let mut sheets = row.sheets();
+    sheets.truncate(row.few());
+    if run {
+        counted(&mut Side::Theirs(sheets));
     }
 }
 
@@ -236,7 +249,8 @@ fn main() {
     match words.iter().map(String::as_str).collect::<Vec<_>>().as_slice() {
         ["times"] => times(),
         ["counted"] => count(),
+        ["once", class, size, run @ ..] => once(class, size.parse().expect("a size"), !run.is_empty()),
         ["write", folder] => write(folder),
-        _ => panic!("bench times|counted|write FOLDER"),
+        _ => panic!("bench times|counted|once CLASS SIZE [WORD]|write FOLDER"),
     }
 }
