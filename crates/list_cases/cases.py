@@ -1,5 +1,5 @@
 #!/usr/bin/env python3
-"""Makes the cases of list_cases, and lists them from docs/01-scope.md and docs/LAYOUT.md alone: writes stdin and stdout beside itself.
+"""Makes the cases of list_cases, and lists them from the document and docs/LAYOUT.md alone: writes stdin and stdout beside itself.
 
 A case is 128 words of 32 bits, little-endian: readings, node records, errors; how many words of the nodes, words of the errors, expected
 kinds and bytes for the listing are lent; one unused; then 96 words of nodes (12 records) and 24 of errors (4 records). The expected kinds

@@ -1,17 +1,7 @@
 /* once [WORD]: reads sheets as `bench write` makes them from standard input and, with a word, hands each to the library once.
-   What it executes with a word less what it executes without is what the library executes. It includes no header, so that the kit's compiler
+   What it executes with a word less what it executes without is what the library executes. It needs no system header, so that the kit's compiler
    is enough; it is for counting where no program can be linked that runs natively. */
-typedef unsigned int u32;
-typedef unsigned long size_t;
-
-typedef struct {
-    u32 reads, nodes, errors, expected;
-} lucia_reading;
-
-unsigned char lucia_parse(const unsigned char *text, size_t text_len, const u32 *tokens, size_t token_words, u32 allowance, u32 *nodes,
-                          size_t node_words, u32 *errors, size_t error_words, unsigned char *expected, size_t expected_len,
-                          lucia_reading *counts);
-long read(int from, void *to, size_t most);
+#include "library.h"
 
 static u32 sheets[1 << 20];
 static u32 nodes[8192 * 8];

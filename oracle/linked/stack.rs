@@ -3,24 +3,28 @@
 //! A thread runs on memory that is painted before each call; what lies between the caller's frame and the lowest place that is not as painted
 //! has been used. Each way of nesting is taken as often as the depth allows, and once more, which is refused. Beside it stands what
 //! the original, without patches, needs for the same sheet where it is inside the domain.
+//!
+//! stack write FILE, which is all there is with `--cfg alone`: the sheets as stack.c reads them, each way of nesting 1 to 70 times and the random nests; their
+//! names and numbers on standard output.
 
-use std::{ffi::c_void, hint::black_box, ptr::null_mut};
+use std::{env, fs};
 
 use lucia::{
-    answer::{Mark, Outcome, cut, read},
+    answer::cut,
     bundle::Bundle,
     chance::Chance,
     classes::{AROUND, deep},
-    compiler::{bare::parse_tokens, interning::Plain},
-    entry::enter,
-    probe::{Limits, WIDEST},
-    records::{ERROR_WORDS, NODE_WORDS},
 };
 
+#[cfg(not(alone))]
 mod ours;
+#[cfg(not(alone))]
+mod painted;
 
-const STACK: usize = 4 << 20;
-const PAINT: u64 = 0x5aa5_c33c_9669_f00f;
+/// The most times that a way of nesting is taken.
+const MOST: usize = 70;
+const RANDOM: usize = 3_000;
+
 
 /// Further ways of nesting: what stands in front, what is repeated around the middle, what stands behind.
 const MORE: [[&str; 5]; 28] = [
@@ -54,64 +58,7 @@ const MORE: [[&str; 5]; 28] = [
     ["match x { ", "{1: ", "y", "}", " => 1 }"],
 ];
 
-unsafe extern "C" {
-    fn pthread_attr_init(attributes: *mut [u64; 8]) -> i32;
-    fn pthread_attr_setstack(attributes: *mut [u64; 8], stack: *mut u64, size: usize) -> i32;
-    fn pthread_create(thread: *mut usize, attributes: *const [u64; 8], start: extern "C" fn(*mut c_void) -> *mut c_void, with: *mut c_void) -> i32;
-    fn pthread_join(thread: usize, result: *mut *mut c_void) -> i32;
-}
-
-/// What the thread is to do, and where its own frame was.
-struct Task<'a> {
-    work: &'a mut dyn FnMut(),
-    frame: usize,
-}
-
-extern "C" fn start(with: *mut c_void) -> *mut c_void {
-    let task = unsafe { &mut *with.cast::<Task>() };
-    let here = 0u64;
-    task.frame = black_box(&here) as *const u64 as usize;
-    (task.work)();
-    null_mut()
-}
-
-/// How many bytes below its own frame a thread used for this work.
-fn used(stack: &mut [u64], work: &mut dyn FnMut()) -> usize {
-    stack.fill(PAINT);
-    let mut task = Task { work, frame: 0 };
-    let (mut attributes, mut thread) = ([0; 8], 0);
-    let failed = unsafe {
-        pthread_attr_init(&mut attributes)
-            | pthread_attr_setstack(&mut attributes, stack.as_mut_ptr(), stack.len() * 8)
-            | pthread_create(&mut thread, &attributes, start, (&raw mut task).cast())
-            | pthread_join(thread, null_mut())
-    };
-    assert_eq!(failed, 0, "a thread on a stack of ours");
-    let lowest = stack.iter().position(|word| *word != PAINT).expect("it ran");
-    assert!(lowest > 0, "the stack was large enough");
-    task.frame - &raw const stack[lowest] as usize
-}
-
-/// The library's answer to a sheet and the stack that it took.
-fn ours_on(stack: &mut [u64], bundle: &Bundle) -> (u8, usize) {
-    let words = bundle.triples().into_flattened();
-    let (mut nodes, mut errors, mut expected) = (vec![0; 8_192 * NODE_WORDS], vec![0; 64 * ERROR_WORDS], vec![0; 65_536]);
-    let (mut number, mut counts) = (0, ours::Counts::default());
-    let bytes = used(stack, &mut || {
-        let mut lent = ours::Lent { nodes: &mut nodes, errors: &mut errors, expected: &mut expected };
-        number = ours::parse(&bundle.text, &words, 300_000, &mut lent, &mut counts);
-    });
-    (number, bytes)
-}
-
-/// The original's need, where it can be asked.
-fn theirs_on(stack: &mut [u64], bundle: &Bundle) -> Option<usize> {
-    let sheet = enter(bundle).ok()?;
-    let run = read(&sheet, Limits { readings: 300_000, ..WIDEST }, true);
-    let read = matches!(run.outcome, Outcome::Read(_)) && run.mark == Mark::None;
-    read.then(|| used(stack, &mut || drop(black_box(parse_tokens(Plain, sheet.text, &sheet.tokens)))))
-}
-
+/// Each way of nesting, and its text for so many times.
 fn ways() -> Vec<(String, impl Fn(usize) -> String)> {
     let all = AROUND.map(|(before, behind)| ["", before, "x", behind, ""]).into_iter().chain(MORE);
     let way = |[front, before, middle, behind, end]: [&'static str; 5]| {
@@ -121,27 +68,43 @@ fn ways() -> Vec<(String, impl Fn(usize) -> String)> {
     all.map(way).collect()
 }
 
-fn main() {
-    let mut stack = vec![0; STACK / 8];
-    let empty = ours_on(&mut stack, &cut("")).1;
-    println!("| nested | times | stack, bytes | answer, once more | stack then | original's stack |");
-    println!("|---|---|---|---|---|---|");
-    let mut deepest = (0, String::new());
-    for (name, text) in ways() {
-        // What is read again at each level ends by its readings, not by its depth.
-        let Some(count) = (1..=70).rev().find(|count| ours_on(&mut stack, &cut(&text(*count))).0 == 0) else {
-            continue;
-        };
-        let (_, bytes) = ours_on(&mut stack, &cut(&text(count)));
-        let (number, more) = ours_on(&mut stack, &cut(&text(count + 1)));
-        let theirs = theirs_on(&mut stack, &cut(&text(count))).map_or("–".to_owned(), |bytes| bytes.to_string());
-        println!("| `{name}` | {count} | {bytes} | {number} | {more} | {theirs} |");
-        deepest = deepest.max((bytes.max(more), name));
-    }
+/// The random nests.
+fn nests() -> Vec<Bundle> {
     let mut chance = Chance::new(1);
-    for _ in 0..3_000 {
-        let (_, bytes) = ours_on(&mut stack, &deep(&mut chance));
-        deepest = deepest.max((bytes, "a random nest".to_owned()));
+    (0..RANDOM).map(|_| deep(&mut chance)).collect()
+}
+
+/// Sheets for a program that reads words: how many, and of each the sizes, the text padded to whole words, the tokens.
+fn write(file: &str) {
+    let mut words = vec![0];
+    let mut put = |name: &str, count: usize, bundle: &Bundle| {
+        let (mut text, tokens) = (bundle.text.clone(), bundle.triples().into_flattened());
+        words[0] += 1;
+        words.extend([text.len(), tokens.len()].map(|size| size as u32));
+        text.resize(text.len().next_multiple_of(4), 0);
+        words.extend(text.chunks_exact(4).map(|b| u32::from_le_bytes([b[0], b[1], b[2], b[3]])));
+        words.extend(&tokens);
+        println!("{count} {name}");
+    };
+    put("an empty sheet", 0, &cut(""));
+    for (name, text) in ways() {
+        for count in 1..=MOST {
+            put(&name, count, &cut(&text(count)));
+        }
     }
-    println!("\nDeepest: {} bytes, `{}`; an empty sheet takes {empty}.", deepest.0, deepest.1);
+    for bundle in nests() {
+        put("a random nest", 0, &bundle);
+    }
+    let bytes: Vec<u8> = words.iter().flat_map(|word| word.to_le_bytes()).collect();
+    fs::write(file, bytes).expect("a file");
+}
+
+fn main() {
+    let words: Vec<String> = env::args().skip(1).collect();
+    match words.iter().map(String::as_str).collect::<Vec<_>>().as_slice() {
+        ["write", file] => write(file),
+        #[cfg(not(alone))]
+        [] => painted::table(&ways(), &nests()),
+        _ => panic!("stack [write FILE]"),
+    }
 }

@@ -36,7 +36,7 @@ pub record Sure {A : Type 0} (r : Rule A) : Type 0 where
 anyhow : {A : Type 0} (o : Out A) → Ends (λ s w a. Unit {0}) Any o
 anyhow (done s w a) = well tt
 anyhow (failed (fault s w f)) = ill tt
-anyhow (failed (refused n)) = cut
+anyhow (failed (refused f)) = cut
 
 -- the ways in which rules are put together
 module _ {A : Type 0} where

@@ -15,7 +15,7 @@ use Rattle.cursor.specs.declared.Fault.{Fault}
 use Rattle.cursor.specs.declared.Ranged.{Ranged}
 use Rattle.cursor.specs.declared.Ranged.the-variants as ranged
 use Rattle.cursor.specs.Sheet.{Sheet, kindAt, rangeAt}
-use Rattle.cursor.specs.Rule.{World, Stop, fault, refused, done, failed}
+use Rattle.cursor.specs.Rule.{World, Stop, fault, refusal, refused, done, failed}
 use Rattle.cursor.specs.Buffer.{put}
 use Rattle.cursor.specs.Tokens.{bump}
 use Rattle.cursor.specs.Checks.{liveRoom, roomFor, fullAt, want, check, eat, unexpectedAt, unexpected, expect, eatRange, pickFrom, foundAt}
@@ -34,7 +34,7 @@ module _ (e : Sheet) (k : ℕ) (s : State) (w : World) where
   unfolding check
   check-yes p = rw (eq-eqb _ _ p, check)
 
-  pub check-full : (kindAt (e .tokens) (s .at) ≡ k → ⊥) → liveRoom ≤ s .live → check e k s w ≡ failed (refused 11)
+  pub check-full : (kindAt (e .tokens) (s .at) ≡ k → ⊥) → liveRoom ≤ s .live → check e k s w ≡ failed (refused (refusal 11))
   unfolding check want
   check-full p q = rw (ne-eqb _ _ p, check) (rw (le-ltb _ _ q, want))
 
@@ -141,7 +141,7 @@ module _ (e : Sheet) (ks : List ℕ) (i : ℕ) (s : State) (w : World) where
     unfolding pickFrom
     pick-here q = rw (drop-cons ks i 0 p) (rw (check-yes e _ s w q))
 
-    pub pick-full : (kindAt (e .tokens) (s .at) ≡ getD ks i 0 → ⊥) → liveRoom ≤ s .live → pickFrom e (drop i ks) i s w ≡ failed (refused 11)
+    pub pick-full : (kindAt (e .tokens) (s .at) ≡ getD ks i 0 → ⊥) → liveRoom ≤ s .live → pickFrom e (drop i ks) i s w ≡ failed (refused (refusal 11))
     unfolding pickFrom
     pick-full q r = rw (drop-cons ks i 0 p) (rw (check-full e _ s w q r))
 

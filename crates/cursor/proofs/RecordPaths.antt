@@ -14,7 +14,7 @@ use Rattle.cursor.specs.declared.Kids.{Kids}
 use Rattle.cursor.specs.declared.Label.{Label}
 use Rattle.cursor.specs.Buffer.{put, copy}
 use Rattle.cursor.specs.Layout.{nodeWords, NEXT, FLAGS, cell, errorWords, nodeLimit, errorLimit, expectedLimit}
-use Rattle.cursor.specs.Rule.{World, refused, done, failed}
+use Rattle.cursor.specs.Rule.{World, refusal, refused, done, failed}
 use Rattle.cursor.specs.Checks.{liveRoom}
 use Rattle.cursor.specs.Records.{word32, bit, write, withNodes, append, add, reflag, listLength, writeError, log}
 
@@ -44,7 +44,7 @@ abbrev pub counted : State → State
 counted s = record { at = s .at; prev = s .prev; reads = s .reads; nodes = s .nodes + 1; errors = s .errors; wanted = s .wanted; live = s .live }
 
 module _ (l : Label) (first : ℕ) (s : State) (w : World) {room : ℕ} (r : room ≡ roomFor w) where
-  pub append-full : room ≤ s .nodes → append l first s w ≡ failed (refused 7)
+  pub append-full : room ≤ s .nodes → append l first s w ≡ failed (refused (refusal 7))
   unfolding append
   append-full p = rw (le-ltb _ _ (rw r at p), append)
 
@@ -118,12 +118,12 @@ unfolding writeError put
 error-written xs i f from n = refl
 
 module _ (f : Fault) (s : State) (w : World) {room : ℕ} (r : room ≡ min (length (w .errors) / errorWords) errorLimit) where
-  pub log-full : room ≤ s .errors → log f s w ≡ failed (refused 8)
+  pub log-full : room ≤ s .errors → log f s w ≡ failed (refused (refusal 8))
   unfolding log
   log-full p = rw (le-ltb _ _ (rw r at p), log)
 
   module _ {n most : ℕ} (p : s .errors < room) (q : n ≡ listLength f s) (m : most ≡ min (length (w .expected)) expectedLimit) where
-    pub log-crowded : most < s .wanted + n → log f s w ≡ failed (refused 8)
+    pub log-crowded : most < s .wanted + n → log f s w ≡ failed (refused (refusal 8))
     unfolding log
     log-crowded h = rw (lt-ltb _ _ (rw r at p), log) (rw (lt-leb _ _ (rw (m, q) at h)))
 

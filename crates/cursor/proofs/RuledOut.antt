@@ -28,7 +28,6 @@ use Rattle.cursor.specs.declared.Kids.{Kids}
 use Rattle.cursor.specs.declared.Label.{Label}
 use Rattle.cursor.specs.declared.reader.Reader.{Reader}
 use Rattle.cursor.specs.declared.Ranged.the-variants as ranged
-use Rattle.cursor.specs.declared.Failure.the-variants as failures
 use Rattle.cursor.specs.declared.Moved.the-variants as moves
 use Rattle.cursor.specs.declared.Test.the-variants as tests
 use Rattle.cursor.specs.declared.Eaten.the-variants as eatens
@@ -37,11 +36,11 @@ use Rattle.cursor.specs.declared.Built.the-variants as builds
 use Rattle.cursor.specs.Sheet.{count, kindAt, rangeAt}
 use Rattle.cursor.specs.Buffer.{put, copy}
 use Rattle.cursor.specs.Layout.{NEXT, FLAGS}
-use Rattle.cursor.specs.Rule.{World, world, fault, refused, Out, done, failed, turns, iterate}
+use Rattle.cursor.specs.Rule.{World, world, fault, refusal, refused, Out, done, failed, turns, iterate}
 use Rattle.cursor.specs.Tokens.{pastFrom, pastTrivia, startOf, endOf, bump, eatTrivia, eolTurn, eatEol, rewind}
 use Rattle.cursor.specs.Checks.{want, check, eat, unexpectedAt, unexpected, expect, eatRange, pickFrom}
 use Rattle.cursor.specs.Records.{bit, write, append, add, reflag, writeError, log}
-use Rattle.cursor.proofs.Told.{heldBy}
+use Rattle.cursor.proofs.Told.{heldBy, erred}
 use Rattle.cursor.proofs.RecordPaths.{append-full}
 use Rattle.cursor.proofs.reader.over as over
 use Rattle.cursor.proofs.reader.kind as here-kind
@@ -96,7 +95,7 @@ apart {a = a} {b = b} f p q = eqb-false (f a) (f b) q (ap f p)
 abbrev left : {A : Type 0} → Out A → State
 left (done s w a) = s
 left (failed (fault s w f)) = s
-left (failed (refused n)) = state 0 0 0 0
+left (failed (refused f)) = state 0 0 0 0
 
 abbrev says : Out Bool → ℕ
 says (done s w b) = bit b
@@ -105,7 +104,7 @@ says (failed x) = 2
 abbrev ended : {A : Type 0} → Out A → ℕ
 ended (done s w a) = 0
 ended (failed (fault s w f)) = 1
-ended (failed (refused n)) = n
+ended (failed (refused f)) = f .number
 
 abbrev none : World
 none = world [] [] [] []
@@ -217,7 +216,7 @@ rewind-keeps-the-old-length κs x p = apart (λ s. s .live) p refl
 
 -- checks
 
-pub check-refused-10 : (κs : _) (x : _) → check.Post κs (lent tokens, (lent [], (state 0 0 0 1024, (kind.Comma, tt)))) (tests.Failed (failures.Refused 10)) x → ⊥
+pub check-refused-10 : (κs : _) (x : _) → check.Post κs (lent tokens, (lent [], (state 0 0 0 1024, (kind.Comma, tt)))) (tests.Failed (refusal 10)) x → ⊥
 unfolding check want kindAt count
 check-refused-10 κs x p = apart ended (p [] limits [] [] []) refl
 
@@ -247,7 +246,7 @@ expect-not-moved κs x p = apart (λ o. left o .at) (p [] [] [] []) refl
 
 pub expect-fault-before-the-test :
     (κs : _) (x : _) →
-    expect.Post κs (lent tokens, (lent (0 ∷ []), (limits, (state 0 0 0 0, (kind.Comma, tt))))) (moves.Failed (failures.Fault (state 0 0 0 0) (record { class = 0; found = kind.Ident; span = span 0 1; listed = true }))) x → ⊥
+    expect.Post κs (lent tokens, (lent (0 ∷ []), (limits, (state 0 0 0 0, (kind.Comma, tt))))) (moves.Failed (erred (state 0 0 0 0) (record { class = 0; found = kind.Ident; span = span 0 1; listed = true }))) x → ⊥
 unfolding expect unexpected eat check want kindAt count
 expect-fault-before-the-test κs x p = apart (λ o. left o .live) (p [] [] [] []) refl
 
@@ -333,6 +332,6 @@ pub log-error-kinds-overwritten : (κs : _) (x : _) → log-error.Post κs (lent
 unfolding log writeError copy put
 log-error-kinds-overwritten κs x p = apart (λ o. left o .wanted) (p []) refl
 
-pub log-error-one-kind-less : (κs : _) (x : _) → log-error.Post κs (lent (0 ∷ 0 ∷ 0 ∷ 0 ∷ 0 ∷ 0 ∷ []), (lent (0 ∷ 0 ∷ []), (lent chain, (logged 0 0, (shut, tt))))) (moves.Failed (failures.Refused 8)) x → ⊥
+pub log-error-one-kind-less : (κs : _) (x : _) → log-error.Post κs (lent (0 ∷ 0 ∷ 0 ∷ 0 ∷ 0 ∷ 0 ∷ []), (lent (0 ∷ 0 ∷ []), (lent chain, (logged 0 0, (shut, tt))))) (moves.Failed (refusal 8)) x → ⊥
 unfolding log writeError copy put
 log-error-one-kind-less κs x p = apart ended (p []) refl

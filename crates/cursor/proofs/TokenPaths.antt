@@ -15,7 +15,7 @@ use Rattle.cursor.specs.declared.State.{State}
 use Rattle.cursor.specs.declared.Span.{Span}
 use Rattle.cursor.specs.declared.Ranged.the-variants as ranged
 use Rattle.cursor.specs.Sheet.{Sheet, count, kindAt, rangeAt}
-use Rattle.cursor.specs.Rule.{World, Stop, done, failed, refused, more, stop, iterate}
+use Rattle.cursor.specs.Rule.{World, Stop, done, failed, refusal, refused, more, stop, iterate}
 use Rattle.cursor.specs.Tokens.{pastFrom, pastTrivia, eatTrivia, bump, eolTurn, eatEol, rewind}
 use Rattle.cursor.proofs.Ends.{Ends, well, cut, Any, branch, then}
 use Rattle.cursor.proofs.Loops.{left, on, off, Takes}
@@ -91,7 +91,7 @@ module _ (e : Sheet) (s : State) (w : World) where
   bump-end p = rw (le-ltb _ _ (range-gone _ _ p), bump)
 
   module _ {r : Span} (p : rangeAt (e .tokens) (s .at) ≡ ranged.At r) where
-    pub bump-spent : e .limits .allowance ≤ s .reads → bump e s w ≡ failed (refused 10)
+    pub bump-spent : e .limits .allowance ≤ s .reads → bump e s w ≡ failed (refused (refusal 10))
     unfolding bump count
     bump-spent q = rw (lt-ltb _ _ (range-there _ _ p), bump) (rw (le-ltb _ _ q))
 

@@ -4,9 +4,10 @@
 -- Assumes nothing.
 use mathlib.Core.Path.{_≡_, refl, sym, ap, _∙_, subst}
 use mathlib.Core.Bool.{Bool, true, false}
-use Prim.Native.Nat.{ℕ}
+use Prim.Native.Nat.{ℕ, zero, suc}
+use Rattle.cursor.specs.declared.State.{State}
+use Rattle.cursor.specs.declared.Fault.{Fault}
 use Rattle.cursor.specs.declared.Failure.{Failure}
-use Rattle.cursor.specs.declared.Failure.the-variants as failures
 use Rattle.cursor.specs.declared.Moved.{Moved}
 use Rattle.cursor.specs.declared.Moved.the-variants as moves
 use Rattle.cursor.specs.declared.Test.{Test}
@@ -20,7 +21,7 @@ use Rattle.cursor.specs.declared.Built.the-variants as builds
 use Rattle.cursor.specs.declared.Ranged.{Ranged}
 use Rattle.cursor.specs.declared.Ranged.the-variants as ranged
 use Rattle.cursor.specs.Rule.{World, Stop, fault, refused, Out, done, failed}
-use Rattle.cursor.specs.Answers.{asMoved, asTest, asEaten, asPicked, asBuilt}
+use Rattle.cursor.specs.Answers.{asStop, asMoved, asTest, asEaten, asPicked, asBuilt}
 
 -- the reading goes on, or stops by an error: only a refusal says nothing of the buffers
 abbrev pub Settled : {A : Type 0} → Out A → Type 0
@@ -44,9 +45,28 @@ pub record Told {A B : Type 0} (f : B → World → Out A) : Type 0 where
 pub one : {A B : Type 0} {f : B → World → Out A} {o : Out A} → Told f → (r s : B) (w x : World) → f r w ≡ o → f s x ≡ o → (r ≡ s) × (Settled (f r w) → w ≡ x)
 one {f = f} told r s w x p q = (sym (told .answer r w) ∙ ap (told .back) (p ∙ sym q) ∙ told .answer s x, λ h. sym (told .buffers r w w h) ∙ ap (heldBy w) (p ∙ sym q) ∙ told .buffers s w x (subst Settled (p ∙ sym q) h))
 
+-- an error as a failure
+abbrev pub erred : State → Fault → Failure
+erred s f = record { state = s; number = 0; fault = f }
+
 abbrev pub backStop : Stop → Failure
-backStop (fault s w f) = failures.Fault s f
-backStop (refused n) = failures.Refused n
+backStop (fault s w f) = erred s f
+backStop (refused f) = f
+
+-- a failure can be read off the stop that it stands for, and what the buffers hold off an error
+pub failure : (f : Failure) (w : World) → backStop (asStop f w) ≡ f
+failure f w = at (f .state) (f .number) (f .fault)
+  where
+    at : (s : State) (n : ℕ) (x : Fault) → backStop (asStop (record { state = s; number = n; fault = x }) w) ≡ record { state = s; number = n; fault = x }
+    at s zero x = refl
+    at s (suc n) x = refl
+
+pub lost : (A : Type 0) (f : Failure) (d w : World) → Settled {A = A} (failed (asStop f w)) → heldBy {A = A} d (failed (asStop f w)) ≡ w
+lost A f d w = at (f .state) (f .number) (f .fault)
+  where
+    at : (s : State) (n : ℕ) (x : Fault) → Settled {A = A} (failed (asStop (record { state = s; number = n; fault = x }) w)) → heldBy {A = A} d (failed (asStop (record { state = s; number = n; fault = x }) w)) ≡ w
+    at s zero x h = refl
+    at s (suc n) x h = absurd h
 
 pub moved : Told asMoved
 moved = record { back = back; answer = answer; buffers = buffers }
@@ -57,13 +77,11 @@ moved = record { back = back; answer = answer; buffers = buffers }
 
     answer : (r : Moved) (w : World) → back (asMoved r w) ≡ r
     answer (moves.On s) w = refl
-    answer (moves.Failed (failures.Fault s f)) w = refl
-    answer (moves.Failed (failures.Refused n)) w = refl
+    answer (moves.Failed f) w = ap moves.Failed (failure f w)
 
     buffers : (r : Moved) (d w : World) → Settled (asMoved r w) → heldBy d (asMoved r w) ≡ w
     buffers (moves.On s) d w h = refl
-    buffers (moves.Failed (failures.Fault s f)) d w h = refl
-    buffers (moves.Failed (failures.Refused n)) d w h = absurd h
+    buffers (moves.Failed f) d w h = lost Unit f d w h
 
 pub tested : Told asTest
 tested = record { back = back; answer = answer; buffers = buffers }
@@ -76,14 +94,12 @@ tested = record { back = back; answer = answer; buffers = buffers }
     answer : (r : Test) (w : World) → back (asTest r w) ≡ r
     answer (tests.Yes s) w = refl
     answer (tests.No s) w = refl
-    answer (tests.Failed (failures.Fault s f)) w = refl
-    answer (tests.Failed (failures.Refused n)) w = refl
+    answer (tests.Failed f) w = ap tests.Failed (failure f w)
 
     buffers : (r : Test) (d w : World) → Settled (asTest r w) → heldBy d (asTest r w) ≡ w
     buffers (tests.Yes s) d w h = refl
     buffers (tests.No s) d w h = refl
-    buffers (tests.Failed (failures.Fault s f)) d w h = refl
-    buffers (tests.Failed (failures.Refused n)) d w h = absurd h
+    buffers (tests.Failed f) d w h = lost Bool f d w h
 
 pub eaten : Told asEaten
 eaten = record { back = back; answer = answer; buffers = buffers }
@@ -96,14 +112,12 @@ eaten = record { back = back; answer = answer; buffers = buffers }
     answer : (r : Eaten) (w : World) → back (asEaten r w) ≡ r
     answer (eatens.At s r) w = refl
     answer (eatens.No s) w = refl
-    answer (eatens.Failed (failures.Fault s f)) w = refl
-    answer (eatens.Failed (failures.Refused n)) w = refl
+    answer (eatens.Failed f) w = ap eatens.Failed (failure f w)
 
     buffers : (r : Eaten) (d w : World) → Settled (asEaten r w) → heldBy d (asEaten r w) ≡ w
     buffers (eatens.At s r) d w h = refl
     buffers (eatens.No s) d w h = refl
-    buffers (eatens.Failed (failures.Fault s f)) d w h = refl
-    buffers (eatens.Failed (failures.Refused n)) d w h = absurd h
+    buffers (eatens.Failed f) d w h = lost Ranged f d w h
 
 pub picked : Told asPicked
 picked = record { back = back; answer = answer; buffers = buffers }
@@ -114,13 +128,11 @@ picked = record { back = back; answer = answer; buffers = buffers }
 
     answer : (r : Picked) (w : World) → back (asPicked r w) ≡ r
     answer (picks.Case s i) w = refl
-    answer (picks.Failed (failures.Fault s f)) w = refl
-    answer (picks.Failed (failures.Refused n)) w = refl
+    answer (picks.Failed f) w = ap picks.Failed (failure f w)
 
     buffers : (r : Picked) (d w : World) → Settled (asPicked r w) → heldBy d (asPicked r w) ≡ w
     buffers (picks.Case s i) d w h = refl
-    buffers (picks.Failed (failures.Fault s f)) d w h = refl
-    buffers (picks.Failed (failures.Refused n)) d w h = absurd h
+    buffers (picks.Failed f) d w h = lost ℕ f d w h
 
 pub built : Told asBuilt
 built = record { back = back; answer = answer; buffers = buffers }
@@ -131,10 +143,8 @@ built = record { back = back; answer = answer; buffers = buffers }
 
     answer : (r : Built) (w : World) → back (asBuilt r w) ≡ r
     answer (builds.Node s i) w = refl
-    answer (builds.Failed (failures.Fault s f)) w = refl
-    answer (builds.Failed (failures.Refused n)) w = refl
+    answer (builds.Failed f) w = ap builds.Failed (failure f w)
 
     buffers : (r : Built) (d w : World) → Settled (asBuilt r w) → heldBy d (asBuilt r w) ≡ w
     buffers (builds.Node s i) d w h = refl
-    buffers (builds.Failed (failures.Fault s f)) d w h = refl
-    buffers (builds.Failed (failures.Refused n)) d w h = absurd h
+    buffers (builds.Failed f) d w h = lost ℕ f d w h

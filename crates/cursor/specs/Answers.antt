@@ -1,8 +1,7 @@
 -- What the program's answers are as ends of rules.
-use Prim.Native.Nat.{ℕ}
+use Prim.Native.Nat.{ℕ, zero, suc}
 use mathlib.Core.Bool.{Bool, true, false}
 use Rattle.cursor.specs.declared.Failure.{Failure}
-use Rattle.cursor.specs.declared.Failure.the-variants as failures
 use Rattle.cursor.specs.declared.Moved.{Moved}
 use Rattle.cursor.specs.declared.Moved.the-variants as moves
 use Rattle.cursor.specs.declared.Test.{Test}
@@ -18,8 +17,7 @@ use Rattle.cursor.specs.declared.Ranged.the-variants as ranged
 use Rattle.cursor.specs.Rule.{World, Stop, fault, refused, Out, done, failed}
 
 abbrev pub asStop : Failure → World → Stop
-asStop (failures.Fault s f) w = fault s w f
-asStop (failures.Refused k) w = refused k
+asStop f w = elim (f .number) as (λ _. Stop) [ zero ↦ fault (f .state) w (f .fault) | suc _ ↦ refused f ]
 
 abbrev pub asMoved : Moved → World → Out Unit
 asMoved (moves.On s) w = done s w tt

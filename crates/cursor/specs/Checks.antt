@@ -9,7 +9,7 @@ use Rattle.cursor.specs.declared.Span.{Span}
 use Rattle.cursor.specs.declared.Ranged.{Ranged}
 use Rattle.cursor.specs.declared.Ranged.the-variants as ranged
 use Rattle.cursor.specs.Sheet.{Sheet, kindAt, rangeAt}
-use Rattle.cursor.specs.Rule.{fault, refused, Out, done, failed, Rule, _>>=_, _>>_, give, ifSo}
+use Rattle.cursor.specs.Rule.{fault, refusal, refused, Out, done, failed, Rule, _>>=_, _>>_, give, ifSo}
 use Rattle.cursor.specs.Buffer.{put}
 use Rattle.cursor.specs.Tokens.{bump}
 
@@ -31,7 +31,7 @@ unfoldable pub want : ℕ → Rule Unit
 want k s w = elim (ltb (s .live) liveRoom) as (λ _. Out Unit) [
   | true ↦ done (record { at = s .at; prev = s .prev; reads = s .reads; nodes = s .nodes; errors = s .errors; wanted = s .wanted; live = s .live + 1 })
       (record { nodes = w .nodes; errors = w .errors; expected = w .expected; live = put (w .live) (s .live) k }) tt
-  | false ↦ failed (refused 11)
+  | false ↦ failed (refused (refusal 11))
 ]
 
 -- is the current token of this kind? Where not, the kind was expected

@@ -9,7 +9,7 @@ use Rattle.cursor.specs.declared.Fault.{Fault}
 use Rattle.cursor.specs.declared.Kids.{Kids}
 use Rattle.cursor.specs.declared.Label.{Label}
 use Rattle.cursor.specs.Layout.{nodeWords, KIND, START, END, FIRST, NEXT, ONE, TWO, FLAGS, cell, errorWords, errorCell, nodeLimit, errorLimit, expectedLimit}
-use Rattle.cursor.specs.Rule.{World, refused, Out, done, failed, Rule}
+use Rattle.cursor.specs.Rule.{World, refusal, refused, Out, done, failed, Rule}
 use Rattle.cursor.specs.Buffer.{put, copy}
 use Rattle.cursor.specs.Checks.{liveRoom}
 
@@ -34,7 +34,7 @@ withNodes w xs = record { nodes = xs; errors = w .errors; expected = w .expected
 unfoldable pub append : Label → ℕ → Rule ℕ
 append l first s w = elim (ltb (s .nodes) (min (length (w .nodes) / nodeWords) nodeLimit)) as (λ _. Out ℕ) [
   | true ↦ done (record { at = s .at; prev = s .prev; reads = s .reads; nodes = s .nodes + 1; errors = s .errors; wanted = s .wanted; live = s .live }) (withNodes w (write (w .nodes) (s .nodes) l first)) (s .nodes + 1)
-  | false ↦ failed (refused 7)
+  | false ↦ failed (refused (refusal 7))
 ]
 
 -- a row with no child yet
@@ -75,7 +75,7 @@ unfoldable pub log : Fault → Rule Unit
 log f s w = elim (ltb (s .errors) (min (length (w .errors) / errorWords) errorLimit)) as (λ _. Out Unit) [
   | true ↦ elim (leb (s .wanted + listLength f s) (min (length (w .expected)) expectedLimit)) as (λ _. Out Unit) [
     | true ↦ done (record { at = s .at; prev = s .prev; reads = s .reads; nodes = s .nodes; errors = s .errors + 1; wanted = s .wanted + listLength f s; live = s .live }) (logged f (listLength f s) s w) tt
-    | false ↦ failed (refused 8)
+    | false ↦ failed (refused (refusal 8))
   ]
-  | false ↦ failed (refused 8)
+  | false ↦ failed (refused (refusal 8))
 ]

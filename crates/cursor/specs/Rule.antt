@@ -4,6 +4,7 @@ use mathlib.Core.List.{List}
 use mathlib.Core.Bool.{Bool, true, false}
 use Rattle.cursor.specs.declared.State.{State}
 use Rattle.cursor.specs.declared.Fault.{Fault}
+use Rattle.cursor.specs.declared.Failure.{Failure}
 use Rattle.cursor.specs.Sheet.{Sheet, count}
 
 -- what the buffers hold
@@ -16,10 +17,14 @@ pub record World : Type 0 where
 abbrev pub world : List ℕ → List ℕ → List ℕ → List ℕ → World
 world n e x l = record { nodes = n; errors = e; expected = x; live = l }
 
--- how a rule fails: Rust's Err, which is not logged yet; or a refusal, 7 to 11, which ends the whole reading
+-- a refusal under a number, 7 to 11, which is all that it tells
+abbrev pub refusal : ℕ → Failure
+refusal n = record { state = record { at = 0; prev = 0; reads = 0; nodes = 0; errors = 0; wanted = 0; live = 0 }; number = n; fault = record { class = 0; found = 0; span = record { start = 0; end = 0 }; listed = false } }
+
+-- how a rule fails: Rust's Err, which is not logged yet; or a refusal, which ends the whole reading
 pub data Stop : Type 0 where
   fault : State → World → Fault → Stop
-  refused : ℕ → Stop
+  refused : Failure → Stop
 
 -- how a rule ends: Rust's Ok, or it fails
 pub data Out (A : Type 0) : Type 0 where
@@ -47,7 +52,7 @@ give a s w = done s w a
 
 -- the whole reading ends under this number
 abbrev pub refuse : {A : Type 0} → ℕ → Rule A
-refuse n s w = failed (refused n)
+refuse n s w = failed (refused (refusal n))
 
 -- the one rule or the other
 abbrev pub ifSo : {A : Type 0} → Rule A → Rule A → Bool → Rule A
@@ -57,7 +62,7 @@ ifSo r q b s w = elim b as (λ _. Out _) [ true ↦ r s w | false ↦ q s w ]
 abbrev pub orElse : {A B : Type 0} → Out A → (State → World → A → Out B) → (State → World → Fault → Out B) → Out B
 orElse (done s w a) k back = k s w a
 orElse (failed (fault s w f)) k back = back s w f
-orElse (failed (refused n)) k back = failed (refused n)
+orElse (failed (refused f)) k back = failed (refused f)
 
 -- what a turn of a loop answers: go on, or stop
 pub data Next (A : Type 0) : Type 0 where

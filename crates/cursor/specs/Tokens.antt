@@ -10,7 +10,7 @@ use Rattle.cursor.specs.declared.Span.{Span}
 use Rattle.cursor.specs.declared.Ranged.{Ranged}
 use Rattle.cursor.specs.declared.Ranged.the-variants as ranged
 use Rattle.cursor.specs.Sheet.{Sheet, count, kindAt, rangeAt}
-use Rattle.cursor.specs.Rule.{refused, Out, done, failed, Rule, _>>=_, _>>_, give, Next, more, stop, Turn, iterate}
+use Rattle.cursor.specs.Rule.{refusal, refused, Out, done, failed, Rule, _>>=_, _>>_, give, Next, more, stop, Turn, iterate}
 
 -- the first place from i on whose token is no trivia, among at most so many
 unfoldable pub pastFrom : List ℕ → ℕ → ℕ → ℕ
@@ -42,7 +42,7 @@ unfoldable pub bump : Sheet → Rule Unit
 bump e s w = elim (ltb (s .at) (count (e .tokens))) as (λ _. Out Unit) [
   | true ↦ elim (ltb (s .reads) (e .limits .allowance)) as (λ _. Out Unit) [
     | true ↦ done (record { at = pastTrivia (e .tokens) (s .at + 1); prev = endOf (rangeAt (e .tokens) (s .at)); reads = s .reads + 1; nodes = s .nodes; errors = s .errors; wanted = s .wanted; live = 0 }) w tt
-    | false ↦ failed (refused 10)
+    | false ↦ failed (refused (refusal 10))
   ]
   | false ↦ done (record { at = s .at; prev = s .prev; reads = s .reads; nodes = s .nodes; errors = s .errors; wanted = s .wanted; live = 0 }) w tt
 ]

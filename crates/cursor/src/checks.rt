@@ -10,6 +10,7 @@ ghost use Rattle.cursor.specs.Answers.{asMoved, asTest, asEaten, asPicke
 use crate::Eaten;
 use crate::Failure;
 use crate::Fault;
+use crate::LIST_FULL;
 use crate::LIVE_ROOM;
 use crate::Limits;
 use crate::Moved;
@@ -29,13 +30,13 @@ pub fn check(tokens: &[u32], live: &mut [u8; 1024], s: State, kind: u8) -> Test
     if current_kind(tokens, s) == kind as u32 {
         return Test::Yes(s);
     }
-    let n = s.live;
+    let n = s.live as usize;
     if LIVE_ROOM <= n {
-        return Test::Failed(Failure::Refused(11));
+        return Test::Failed(LIST_FULL);
     }
     live[n] = kind;
     let mut told = s;
-    told.live = n + 1;
+    told.live = s.live + 1;
     Test::No(told)
 }
 
@@ -84,7 +85,11 @@ pub fn expect(tokens: &[u32], live: &mut [u8; 1024], limits: Limits, s: State, k
     let here = eat(tokens, live, limits, s, kind);
     match here {
         Test::Yes(t) => Moved::On(t),
-        Test::No(t) => Moved::Failed(Failure::Fault(t, unexpected(tokens, t))),
+        Test::No(t) => Moved::Failed(Failure {
+            state: t,
+            number: 0,
+            fault: unexpected(tokens, t),
+        }),
         Test::Failed(f) => Moved::Failed(f),
     }
 }
@@ -137,7 +142,7 @@ pub fn pick(tokens: &[u32], live: &mut [u8; 1024], s: State, chain: &[u8]) -> Pi
 {
     let found = current_kind(tokens, s);
     // Told once for the whole chain, so that its kinds need no test each: the list is never full in a sheet.
-    let roomy = has_room(s.live, chain.len());
+    let roomy = has_room(s.live as usize, chain.len());
     let mut t = s;
     let mut i = 0;
     while i < chain.len() {
@@ -145,12 +150,12 @@ pub fn pick(tokens: &[u32], live: &mut [u8; 1024], s: State, chain: &[u8]) -> Pi
         if found == kind as u32 {
             return Picked::Case(t, i);
         }
-        let told = t.live;
+        let told = t.live as usize;
         if is_full(roomy, told) {
-            return Picked::Failed(Failure::Refused(11));
+            return Picked::Failed(LIST_FULL);
         }
         live[told] = kind;
-        t.live = told + 1;
+        t.live = t.live + 1;
         i += 1;
     }
     Picked::Case(t, i)

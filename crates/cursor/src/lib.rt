@@ -27,7 +27,7 @@ pub struct State {
     pub nodes: u32,
     pub errors: u32,
     pub wanted: u32,
-    pub live: usize,
+    pub live: u32,
 }
 
 pub struct Span {
@@ -50,12 +50,61 @@ pub struct Fault {
     pub listed: bool,
 }
 
-// How a rule ends where it does not succeed: Rust's Err, or a refusal, which ends the whole reading. Its number is as wide as a place: a narrow one
-// would lie over a part of a State's first word in every answer, and each copy of a State would be put together from bytes.
-pub enum Failure {
-    Fault(State, Fault),
-    Refused(usize),
+// How a rule ends where it does not succeed: Rust's Err, under number 0, or a refusal, which ends the whole reading. It is no enum so that its State lies where
+// that of a success does: with a tag before it each copy of a State would be put together from bytes.
+pub struct Failure {
+    pub state: State,
+    pub number: u32,
+    pub fault: Fault,
 }
+
+// The refusals: no room for a node record, for an error record or its kinds, for a level, for a reading, in the live list. A refusal has its number alone.
+pub const NO_ROOM: Failure = Failure {
+    state: NOWHERE,
+    number: 7,
+    fault: NO_FAULT,
+};
+
+pub const ERRORS_FULL: Failure = Failure {
+    state: NOWHERE,
+    number: 8,
+    fault: NO_FAULT,
+};
+
+pub const TOO_DEEP: Failure = Failure {
+    state: NOWHERE,
+    number: 9,
+    fault: NO_FAULT,
+};
+
+pub const ALL_SPENT: Failure = Failure {
+    state: NOWHERE,
+    number: 10,
+    fault: NO_FAULT,
+};
+
+pub const LIST_FULL: Failure = Failure {
+    state: NOWHERE,
+    number: 11,
+    fault: NO_FAULT,
+};
+
+const NOWHERE: State = State {
+    at: 0,
+    prev: 0,
+    reads: 0,
+    nodes: 0,
+    errors: 0,
+    wanted: 0,
+    live: 0,
+};
+
+const NO_FAULT: Fault = Fault {
+    class: 0,
+    found: 0,
+    span: Span { start: 0, end: 0 },
+    listed: false,
+};
 
 // The answer of a rule that only moves.
 pub enum Moved {

@@ -7,12 +7,13 @@ ghost use Rattle.cursor.specs.Rule.{world, done};
 ghost use Rattle.cursor.specs.Records.{append, add, reflag, bit, flagged, listLength, log};
 ghost use Rattle.cursor.specs.Answers.{asBuilt, asMoved};
 use crate::Built;
-use crate::Failure;
+use crate::ERRORS_FULL;
 use crate::Fault;
 use crate::Kids;
 use crate::LIVE_ROOM;
 use crate::Label;
 use crate::Moved;
+use crate::NO_ROOM;
 use crate::State;
 
 // The words of a node record and their places.
@@ -70,7 +71,7 @@ pub fn append(nodes: &mut [u32], s: State, label: Label, first: u32) -> Built
     let n = s.nodes;
     let i = n as usize;
     if within(nodes.len() / NODE_WORDS, NODE_LIMIT) <= i {
-        return Built::Failed(Failure::Refused(7));
+        return Built::Failed(NO_ROOM);
     }
     let base = NODE_WORDS * i;
     nodes[base + KIND] = label.kind;
@@ -143,7 +144,7 @@ fn list_length(s: State, f: Fault) -> usize
     ensures { λ r. ⌜ r ≡ listLength f s ⌝ }
 {
     if f.listed {
-        return within(s.live, LIVE_ROOM);
+        return within(s.live as usize, LIVE_ROOM);
     }
     0
 }
@@ -162,10 +163,10 @@ pub fn log_error(
     let from = s.wanted as usize;
     let i = s.errors as usize;
     if within(errors.len() / ERROR_WORDS, ERROR_LIMIT) <= i {
-        return Moved::Failed(Failure::Refused(8));
+        return Moved::Failed(ERRORS_FULL);
     }
     if within(expected.len(), EXPECTED_LIMIT) < from + count {
-        return Moved::Failed(Failure::Refused(8));
+        return Moved::Failed(ERRORS_FULL);
     }
     let base = ERROR_WORDS * i;
     errors[base + CLASS] = f.class;

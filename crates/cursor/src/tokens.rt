@@ -7,7 +7,7 @@ ghost use Rattle.cursor.specs.declared.Limits.{Limits};
 ghost use Rattle.cursor.specs.Rule.{World, done};
 ghost use Rattle.cursor.specs.Tokens.{pastTrivia, eatTrivia, bump, eatEol, startOf, endRange, rewind};
 ghost use Rattle.cursor.specs.Answers.{asMoved};
-use crate::Failure;
+use crate::ALL_SPENT;
 use crate::Limits;
 use crate::Moved;
 use crate::Ranged;
@@ -54,7 +54,7 @@ pub fn bump(tokens: &[u32], limits: Limits, s: State) -> Moved
     };
     let reads = s.reads;
     if limits.allowance <= reads {
-        return Moved::Failed(Failure::Refused(10));
+        return Moved::Failed(ALL_SPENT);
     }
     let next = past_trivia(tokens, s.at + 1);
     let mut moved = s;

@@ -2,7 +2,7 @@
 use mathlib.Core.Path.{_≡_, refl, sym, _∙_}
 use mathlib.Core.Bool.{Bool, true, false}
 use Prim.Native.Nat.{ℕ, _<_, _≤_}
-use mathlib.Core.List.{[], _∷_}
+use mathlib.Core.List.{List, [], _∷_}
 use mathlib.Core.Logic.{_⊎_, inl, inr}
 use native.Mathlib.Omega.{arith}
 use types.Run.{OneOf}
@@ -17,7 +17,7 @@ use Rattle.cursor.specs.declared.Ranged.{Ranged}
 use Rattle.cursor.specs.declared.Ranged.the-variants as ranged
 use Rattle.cursor.specs.Node as node
 use Rattle.cursor.specs.Sheet.{rangeAt}
-use Rattle.cursor.specs.Rule.{World, Stop, fault, done, failed, give, more, stop, iterate}
+use Rattle.cursor.specs.Rule.{World, world, Stop, fault, done, failed, give, more, stop, iterate}
 use Rattle.cursor.specs.Tokens.{startOf, bump}
 use Rattle.cursor.specs.Checks.{check, expect, eatRange, pick, unexpected, unexpectedAt}
 use Rattle.cursor.specs.Records.{add, flagged}
@@ -380,6 +380,10 @@ module _ (r : Inner) where
     pub stmt-plain : {s1 : State} {w1 : World} → check (r .sheet) kind.Fn s w ≡ done s1 w1 false → stmt r s w ≡ plain r s1 w1
     unfolding stmt
     stmt-plain p = rw p
+
+    -- by whichever way a plain statement is come to
+    pub met : {s1 t : State} {n n1 e e1 x x1 l l1 : List ℕ} → stmt r s w ≡ plain r s1 (world n e x l) → n1 ≡ n → e1 ≡ e → x1 ≡ x → l1 ≡ l → t ≡ s1 → stmt r s w ≡ plain r t (world n1 e1 x1 l1)
+    met p n e x l t = p ∙ sym (λ j. plain r (t j) (world (n j) (e j) (x j) (l j)))
 
     pub stmt-tried : {s1 : State} {w1 : World} → check (r .sheet) kind.Fn s w ≡ done s1 w1 true → stmt r s w ≡ attempt (functionStmt r) give (plain r) s1 w1
     unfolding stmt

@@ -27,6 +27,7 @@ use cursor::Picked;
 use cursor::Ranged;
 use cursor::Span;
 use cursor::State;
+use cursor::TOO_DEEP;
 use cursor::Test;
 use cursor::checks::check;
 use cursor::checks::eat;
@@ -123,7 +124,7 @@ pub fn exprs(
 {
     let depth = left.depth;
     if depth == 0 {
-        return Rowed::Failed(Failure::Refused(9));
+        return Rowed::Failed(TOO_DEEP);
     }
     let limits = left.limits;
     let inner = Left {
@@ -232,34 +233,41 @@ fn stmt(
     ensures { λ r. ⌜ asBuilt r (world (now (nodes .exit)) (now (errors .exit)) (now (wanted .exit)) (now (live .exit))) ≡ stmt (under (now (text .entry)) (now (tokens .entry)) left) s (world (now (nodes .entry)) (now (errors .entry)) (now (wanted .entry)) (now (live .entry))) ⌝ }
 {
     let named = check(tokens, live, s, kinds::FN);
-    let s1 = match named {
-        Test::Yes(t) => t,
-        Test::No(t) => return plain(text, tokens, nodes, errors, wanted, live, left, t),
+    let mut s1: State;
+    match named {
+        Test::Yes(t) => {
+            let from = start_range(tokens, t);
+            let nowhere = Ranged::Nowhere;
+            let tried = def(
+                text,
+                tokens,
+                nodes,
+                errors,
+                wanted,
+                live,
+                left,
+                t,
+                from,
+                nowhere,
+            );
+            let lost = match tried {
+                Built::Node(u, l) => return Built::Node(u, l),
+                Built::Failed(f) => f,
+            };
+            let back = undone(t, lost);
+            match back {
+                Moved::On(u) => {
+                    s1 = u;
+                }
+                Moved::Failed(f) => return Built::Failed(f),
+            }
+        }
+        Test::No(t) => {
+            s1 = t;
+        }
         Test::Failed(f) => return Built::Failed(f),
-    };
-    let from = start_range(tokens, s1);
-    let nowhere = Ranged::Nowhere;
-    let tried = def(
-        text,
-        tokens,
-        nodes,
-        errors,
-        wanted,
-        live,
-        left,
-        s1,
-        from,
-        nowhere,
-    );
-    let lost = match tried {
-        Built::Node(t, l) => return Built::Node(t, l),
-        Built::Failed(f) => f,
-    };
-    let back = undone(s1, lost);
-    match back {
-        Moved::On(t) => plain(text, tokens, nodes, errors, wanted, live, left, t),
-        Moved::Failed(f) => Built::Failed(f),
     }
+    plain(text, tokens, nodes, errors, wanted, live, left, s1)
 }
 
 // A statement that is no named function.
@@ -483,7 +491,7 @@ pub fn prec(
 {
     let depth = left.depth;
     if depth == 0 {
-        return Parsed::Failed(Failure::Refused(9));
+        return Parsed::Failed(TOO_DEEP);
     }
     let limits = left.limits;
     let inner = Left {
@@ -693,7 +701,11 @@ fn tried(
         Parsed::Failed(f) => return Parsed::Failed(f),
     }
     let Expr::Call(link, called) = x else {
-        return Parsed::Failed(Failure::Fault(s2, alone(kinds::TRY, span_of(here))));
+        return Parsed::Failed(Failure {
+            state: s2,
+            number: 0,
+            fault: alone(kinds::TRY, span_of(here)),
+        });
     };
     let mut t = s2;
     let mut kids = called.kids;
@@ -801,7 +813,7 @@ fn prim(
         }
         Parsed::Failed(f) => return Parsed::Failed(f),
     }
-    // And most have no call and no member.
+    // Most operands have no call and no member either: told before that loop too.
     if !is_suffix(current_kind(tokens, t)) {
         return no_suffix(tokens, live, t, x, lambda);
     }
@@ -2005,7 +2017,11 @@ fn set(
     let to = to_assign_left(x);
     let link = match to {
         AssignLeft::To(l) => l,
-        AssignLeft::Nothing => return Built::Failed(Failure::Fault(s, unexpected(tokens, s))),
+        AssignLeft::Nothing => return Built::Failed(Failure {
+            state: s,
+            number: 0,
+            fault: unexpected(tokens, s),
+        }),
     };
     let taken = bump(tokens, limits, s);
     let s1 = match taken {
@@ -2086,7 +2102,11 @@ fn typed(
     let limits = left.limits;
     let depth = left.depth;
     let Expr::Name(name) = x else {
-        return Built::Failed(Failure::Fault(s, unexpected(tokens, s)));
+        return Built::Failed(Failure {
+            state: s,
+            number: 0,
+            fault: unexpected(tokens, s),
+        });
     };
     let colon = bump(tokens, limits, s);
     let s1 = match colon {
@@ -2152,7 +2172,11 @@ fn many(
     let to = to_assign_left(x);
     let one = match to {
         AssignLeft::To(l) => l,
-        AssignLeft::Nothing => return Built::Failed(Failure::Fault(s, unexpected(tokens, s))),
+        AssignLeft::Nothing => return Built::Failed(Failure {
+            state: s,
+            number: 0,
+            fault: unexpected(tokens, s),
+        }),
     };
     let first = Kids {
         first: one,
@@ -2247,7 +2271,11 @@ fn lhs(
         let link = match to {
             AssignLeft::To(l) => l,
             AssignLeft::Nothing => {
-                return Rowed::Failed(Failure::Fault(s2, alone(kinds::COMMA, span)));
+                return Rowed::Failed(Failure {
+                    state: s2,
+                    number: 0,
+                    fault: alone(kinds::COMMA, span),
+                });
             }
         };
         kids = add(nodes, kids, link);

@@ -9,7 +9,7 @@ use Rattle.kinds.specs.Number as kind
 use Rattle.cursor.specs.declared.State.{State}
 use Rattle.cursor.specs.declared.Kids.{Kids}
 use Rattle.cursor.specs.Sheet.{Sheet}
-use Rattle.cursor.specs.Rule.{World, refused, Out, done, failed, _>>=_}
+use Rattle.cursor.specs.Rule.{World, refusal, refused, Out, done, failed, _>>=_}
 use Rattle.exprs.specs.Levels.{levels, programRecord, program}
 use Rattle.grammar.specs.Places.{Place, before, opening}
 use Rattle.grammar.specs.Follows.{Follows}
@@ -30,7 +30,7 @@ sheetCost f = record { reads = cost (f .body); nodes = suc (records (f .body)); 
 -- how the reading of a sheet ends that follows the grammar, with d levels and what the buffers hold
 pub data Finds (e : Sheet) (d : ℕ) (f : Follows (e .text) (e .tokens)) (w : World) : Out ℕ → Type 0 where
   finds : {s1 : State} {w1 : World} {link : ℕ} → s1 .errors ≡ 0 → s1 .reads ≡ cost (f .body) → s1 .nodes ≡ suc (records (f .body)) → placeAt (e .tokens) s1 ≡ f .end → length (w1 .nodes) ≡ length (w .nodes) → cost (f .body) ≤ e .limits .allowance → Finds e d f w (done s1 w1 link)
-  lacks : {n : ℕ} → Lacks e d (sheetCost f) outset w n → Finds e d f w (failed (refused n))
+  lacks : {n : ℕ} → Lacks e d (sheetCost f) outset w n → Finds e d f w (failed (refused (refusal n)))
 
 module _ {e : Sheet} {d : ℕ} where
   program-record-meets : {p : Place} (from : ℕ) (row : Kids) → Meets e d p p building Any (programRecord from row)

@@ -68,7 +68,7 @@ fromStrRadix radix (b ∷ bs) = afterwards radix (signBy b) (afterSign (signBy b
 unfoldable pub intOf : List ℕ → IntAnswer
 intOf bytes = fromStrRadix (radixOf (kept bytes)) (afterPrefix (kept bytes))
 
--- the faults' numbers, in the order of docs/01-scope.md: "empty, invalid digit, too large, too small"
+-- the faults' numbers, in the order of the document: "empty, invalid digit, too large, too small"
 abbrev pub faultNumber : IntFault → ℕ
 faultNumber Empty = 0
 faultNumber InvalidDigit = 1

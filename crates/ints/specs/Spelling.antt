@@ -1,4 +1,4 @@
--- How an integer is spelled: the last rule of docs/01-scope.md and Rust's documentation of `i64::from_str_radix`.
+-- How an integer is spelled: the last rule of the document and Rust's documentation of `i64::from_str_radix`.
 -- A spelling is a list of bytes; nothing is assumed of it.
 use Prim.Native.Nat.{ℕ, _+_, _-_, _*_, _^_}
 use mathlib.Core.List.{List, [], _∷_}

@@ -28,7 +28,7 @@ use Rattle.kinds.proofs.Every.{at}
 use Rattle.kinds.proofs.Rest.{past}
 use Rattle.kinds.proofs.Parts.{equal-same}
 
--- there are 79 kinds, and these are the numbers that 01-scope.md names
+-- there are 79 kinds, and these are the numbers that the document names
 pub seventy-nine : length order ≡ 79
 seventy-nine = refl
 
@@ -144,7 +144,7 @@ trivia-first =
     (λ k h. flag-same (isTrivia k) (ltb k 4) (eqb→eq _ _ (at 79 (λ k. eqb (flag (isTrivia k)) (flag (ltb k 4))) tt k h)))
     (λ k h. let g : 4 ≤ k = omega arith in rw (past k h, le-ltb k 4 g))
 
--- the levels that 01-scope.md gives, and 0 of kinds that are no binary operator
+-- the levels that the document gives, and 0 of kinds that are no binary operator
 pub levels :
     map (λ s. levelOf (kindNumber s)) ("Mul" ∷ "Div" ∷ "Rem" ∷ "Add" ∷ "Sub" ∷ "Eq" ∷ "NotEq" ∷ "Lt" ∷ "LtEq" ∷ "Gt" ∷ "GtEq" ∷ "Is" ∷ "And" ∷ "Or" ∷ "Not" ∷ "AddAssign" ∷ "Ident" ∷ "Eof" ∷ []) ≡
     5 ∷ 5 ∷ 5 ∷ 4 ∷ 4 ∷ 3 ∷ 3 ∷ 3 ∷ 3 ∷ 3 ∷ 3 ∷ 3 ∷ 2 ∷ 1 ∷ 0 ∷ 0 ∷ 0 ∷ 0 ∷ []

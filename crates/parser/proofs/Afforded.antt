@@ -1,17 +1,15 @@
 -- Demand 3: a sheet that follows the grammar, with room for its records and its nesting, is refused for its readings exactly if the sum over its marks
 -- passes the allowance, and read otherwise.
-use mathlib.Core.Path.{_≡_, refl, sym, ap, _∙_, subst}
+use mathlib.Core.Path.{_≡_, refl, sym, subst}
 use mathlib.Core.List.{List}
 use Prim.Native.Nat.{ℕ, suc, _/_, _<_, _≤_, min}
 use native.Mathlib.Omega.{arith}
 use lib.ListN.{length, replicate, length-replicate}
+use Rattle.cursor.specs.declared.Failure.{Failure}
 use Rattle.cursor.specs.Layout.{nodeWords, nodeLimit}
-use Rattle.cursor.specs.Rule.{World, world, refused, Out, done, failed}
+use Rattle.cursor.specs.Rule.{world, refused, Out, done, failed}
 use Rattle.cursor.specs.Checks.{liveRoom}
-use Rattle.entry.specs.declared.Entry.{Entry}
 use Rattle.entry.specs.declared.Entry.the-variants as entries
-use Rattle.entry.specs.Check.{entryOf}
-use Rattle.exprs.specs.Levels.{under, program}
 use Rattle.grammar.specs.Follows.{Follows}
 use Rattle.grammar.specs.Records.{records}
 use Rattle.grammar.specs.Depth.{need}
@@ -22,9 +20,8 @@ use Rattle.marks.specs.Marks.{marks, readings}
 use Rattle.marks.proofs.Marked.{cost-marks}
 use Rattle.live.proofs.Program.{program-bounded}
 use Rattle.parser.specs.Blank.{blank}
-use Rattle.parser.specs.Outcome.{Outcome}
 use Rattle.parser.specs.Finish.{finished}
-use Rattle.parser.specs.Parse.{begin, within, depth, reading, parse}
+use Rattle.parser.specs.Parse.{begin, depth, reading, parse}
 use Rattle.parser.specs.Demands.{Roomy, Weighed}
 use Rattle.parser.proofs.Demands.{lent, few}
 
@@ -35,19 +32,19 @@ enough : {allowance sum : ℕ} → sum ≤ allowance → Weighed allowance sum 0
 enough h = record { spent = ((λ q. absurd (omega (arith, q))), (λ g. absurd (omega (arith, h, g)))); covered = ((λ _. h), (λ _. refl)) }
 
 module _ (text tokens : List ℕ) (allowance : ℕ) (f : Follows text tokens) where
-  by-end : (n e x : List ℕ) (o : Out ℕ) → (o ≡ failed (refused 11) → ⊥) → suc (records (f .body)) ≤ min (length n / nodeWords) nodeLimit → suc (need (f .body)) ≤ depth
+  by-end : (n e x : List ℕ) (o : Out ℕ) → ((z : Failure) → o ≡ failed (refused z) → z .number ≡ 11 → ⊥) → suc (records (f .body)) ≤ min (length n / nodeWords) nodeLimit → suc (need (f .body)) ≤ depth
       → Finds (lent text tokens allowance) depth f (world n e x (replicate liveRoom 0)) o → Weighed allowance (cost (f .body)) (finished n e x o .number)
   unfolding finished
   by-end n e x (done s w link) never room deep (finds a b c d g h) = enough h
   by-end n e x (failed (refused k)) never room deep (lacks (few-nodes h)) = absurd (omega (arith, h, room))
   by-end n e x (failed (refused k)) never room deep (lacks (few-levels h)) = absurd (omega (arith, h, deep))
   by-end n e x (failed (refused k)) never room deep (lacks (few-reads h)) = let g : allowance < cost (f .body) = omega (arith, h) in too-much g
-  by-end n e x (failed (refused k)) never room deep (lacks full) = absurd (never refl)
+  by-end n e x (failed (refused k)) never room deep (lacks full) = absurd (never _ refl refl)
 
   module _ (n e x : List ℕ) where
     by-entry : Roomy f n → Weighed allowance (cost (f .body)) (parse text tokens allowance n e x .number)
     unfolding parse reading
-    by-entry r = rw (r .fit, parse) (by-end (blank n) (blank e) (blank x) _ (program-bounded (lent text tokens allowance) _ begin refl) (subst (λ k. suc (records (f .body)) ≤ min (k / nodeWords) nodeLimit) (sym (length-replicate {A = ℕ} (length n) 0)) (r .room)) (r .levels)
+    by-entry r = rw (r .fit, parse) (by-end (blank n) (blank e) (blank x) _ (λ z. program-bounded (lent text tokens allowance) _ begin z refl) (subst (λ k. suc (records (f .body)) ≤ min (k / nodeWords) nodeLimit) (sym (length-replicate {A = ℕ} (length n) 0)) (r .room)) (r .levels)
         (program-meets (lent text tokens allowance) (few text tokens allowance (r .fit)) depth _ f))
 
     pub afforded : Roomy f n → Weighed allowance (readings (marks (f .body))) (parse text tokens allowance n e x .number)

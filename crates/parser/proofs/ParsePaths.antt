@@ -2,12 +2,12 @@
 -- blind to what the buffers held.
 use mathlib.Core.Path.{_≡_, refl, sym, ap, _∙_}
 use mathlib.Core.List.{List}
-use Prim.Native.Nat.{ℕ, _<_}
+use Prim.Native.Nat.{ℕ, zero, suc, _<_}
 use native.Mathlib.Omega.{arith}
 use lib.ListN.{length, replicate, length-replicate}
 use Rattle.cursor.specs.declared.State.{State}
+use Rattle.cursor.specs.declared.Fault.{Fault}
 use Rattle.cursor.specs.declared.Failure.{Failure}
-use Rattle.cursor.specs.declared.Failure.the-variants as failures
 use Rattle.cursor.specs.Rule.{World, world, Stop, fault, refused, Out, done, failed}
 use Rattle.cursor.specs.Answers.{asStop}
 use Rattle.cursor.specs.Checks.{liveRoom}
@@ -20,7 +20,7 @@ use Rattle.blind.proofs.Blind.{no-node, no-error, too-deep, all-spent, too-many
 use Rattle.blind.proofs.Program.{program-blind}
 use Rattle.parser.specs.declared.Answer.the-variants as answers
 use Rattle.parser.specs.Blank.{upTo, blank}
-use Rattle.parser.specs.Outcome.{Outcome, unread, told}
+use Rattle.parser.specs.Outcome.{told}
 use Rattle.parser.specs.Finish.{Numbered, trimmed, finished}
 use Rattle.parser.specs.Parse.{begin, within, reading, parse}
 use Rattle.parser.proofs.Blanks.{up-to-none, up-to-same}
@@ -39,7 +39,7 @@ finished-same n e x (cut p) = refl
 -- the number of a refusal is one of the document's
 pub number : Stop → ℕ
 number (fault s w f) = 0
-number (refused k) = k
+number (refused f) = f .number
 
 ending : Out ℕ → ℕ
 ending (done s w link) = 0
@@ -57,8 +57,11 @@ ending-short (cut too-many-kinds) = omega arith
 
 pub numbered : (f : Failure) (w : World) → number (asStop f w) < 256 → Numbered f
 unfolding number
-numbered (failures.Refused n) w h = h
-numbered (failures.Fault s g) w h = tt
+numbered f w = at (f .state) (f .number) (f .fault)
+  where
+    at : (s : State) (n : ℕ) (g : Fault) → number (asStop (record { state = s; number = n; fault = g }) w) < 256 → n < 256
+    at s zero g h = h
+    at s (suc n) g h = h
 
 none-below : {xs ys : List ℕ} → length ys ≡ length xs → Same 0 xs ys
 none-below l = record { long = l; below = λ i h. absurd (omega (arith, h)) }

@@ -89,10 +89,10 @@ fn refuse(nodes: &mut [u32], errors: &mut [u32], expected: &mut [u8], failure: F
     clear_words(nodes, 0);
     clear_words(errors, 0);
     clear_bytes(expected, 0);
-    match failure {
-        Failure::Refused(n) => Answer::Refused(n as u8),
-        Failure::Fault(_, _) => Answer::Refused(NEVER),
+    if failure.number == 0 {
+        return Answer::Refused(NEVER);
     }
+    Answer::Refused(failure.number as u8)
 }
 
 // Reads a sheet: text, tokens (kind, start, end, three words each) and the allowance of readings, into the buffers of node records, error

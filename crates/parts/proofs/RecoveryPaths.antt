@@ -1,15 +1,15 @@
 -- Each way through an undone attempt, through recovery, and through what follows a statement.
-use mathlib.Core.Path.{_≡_, refl, sym, _∙_}
+use mathlib.Core.Path.{_≡_, refl, ap, _∙_}
 use mathlib.Core.Bool.{true, false}
 use mathlib.Core.List.{[], _∷_}
-use Prim.Native.Nat.{ℕ, _<_, _≤_}
+use Prim.Native.Nat.{ℕ, zero, suc, _<_, _≤_}
+use native.Mathlib.Omega.{arith}
 use borrow.Author.Tests.{lt-ltb, le-ltb}
 use Rattle.kinds.specs.Number as kind
 use Rattle.cursor.specs.declared.State.{State}
 use Rattle.cursor.specs.declared.Kids.{Kids}
 use Rattle.cursor.specs.declared.Fault.{Fault}
 use Rattle.cursor.specs.declared.Failure.{Failure}
-use Rattle.cursor.specs.declared.Failure.the-variants as failures
 use Rattle.cursor.specs.Sheet.{Sheet}
 use Rattle.cursor.specs.Rule.{World, Stop, fault, refused, Out, done, failed, more, stop, iterate}
 use Rattle.cursor.specs.Tokens.{bump, eatEol, rewind}
@@ -17,20 +17,30 @@ use Rattle.cursor.specs.Checks.{check, eat, expect, pick, unexpectedAt}
 use Rattle.cursor.specs.Records.{log}
 use Rattle.cursor.specs.Attempts.{unbuilt, recover}
 use Rattle.cursor.specs.Answers.{asStop}
-use Rattle.cursor.proofs.CheckPaths.{via}
 use Rattle.types.specs.Items.{addSome}
 use Rattle.parts.specs.Recovery.{undo, skipTurn, skip, skipped, recovering, logHere, lineEnd, afterStmt}
 
--- a rule that failed, by the failure that was told apart
-pub stopped : {A : Type 0} {o : Out A} (w : World) {f v : Failure} → o ≡ failed (asStop f w) → f ≡ v → o ≡ failed (asStop v w)
-stopped w p q = via (λ g w. failed (asStop g w)) (sym p) q
+-- a failure under number 0 is an error, any other a refusal
+an-error : (f : Failure) (w : World) → f .number ≤ 0 → asStop f w ≡ fault (f .state) w (f .fault)
+an-error f w h = let none : f .number ≡ 0 = omega (arith, h) in rw none
 
-module _ (mark : State) (w : World) {lost : Failure} where
-  pub undo-fault : {s back : State} {f : Fault} → lost ≡ failures.Fault s f → back ≡ rewind mark s → undo mark (asStop lost w) ≡ done back w tt
-  undo-fault p q = rw (p, q)
+a-refusal : (f : Failure) (w : World) → 0 < f .number → asStop f w ≡ refused f
+a-refusal f w = at (f .state) (f .number) (f .fault)
+  where
+    at : (s : State) (n : ℕ) (x : Fault) → 0 < n → asStop (record { state = s; number = n; fault = x }) w ≡ refused (record { state = s; number = n; fault = x })
+    at s zero x h = absurd (omega (arith, h))
+    at s (suc n) x h = refl
 
-  pub undo-refused : {n : ℕ} → lost ≡ failures.Refused n → undo mark (asStop lost w) ≡ failed (refused n)
-  undo-refused p = rw p
+-- a rule that failed by an error
+pub stopped : {A : Type 0} {o : Out A} (w : World) {f : Failure} → o ≡ failed (asStop f w) → f .number ≤ 0 → o ≡ failed (fault (f .state) w (f .fault))
+stopped w {f} p h = p ∙ ap failed (an-error f w h)
+
+module _ (mark : State) (w : World) (lost : Failure) where
+  pub undo-fault : {back : State} → lost .number ≤ 0 → back ≡ rewind mark (lost .state) → undo mark (asStop lost w) ≡ done back w tt
+  undo-fault h q = rw (an-error lost w h) (rw q)
+
+  pub undo-refused : 0 < lost .number → undo mark (asStop lost w) ≡ failed (asStop lost w)
+  undo-refused h = rw (a-refusal lost w h)
 
 module _ (e : Sheet) (end : ℕ) (s : State) (w : World) where
   pub skip-is : skip e end s w ≡ iterate e (skipTurn e end) tt s w
@@ -68,9 +78,9 @@ module _ (e : Sheet) (end : ℕ) (mark : State) {o : Out ℕ} where
   unfolding recovering
   recovering-node p = rw p
 
-  pub recovering-refused : {n : ℕ} → o ≡ failed (refused n) → recovering e end mark o ≡ failed (refused n)
+  pub recovering-refused : (f : Failure) (w : World) → o ≡ failed (asStop f w) → 0 < f .number → recovering e end mark o ≡ failed (asStop f w)
   unfolding recovering
-  recovering-refused p = rw p
+  recovering-refused f w p h = rw p (rw (a-refusal f w h))
 
   module _ {s back : State} {w : World} {f : Fault} (p : o ≡ failed (fault s w f)) (q : back ≡ unbuilt mark s) where
     pub recovering-full : {x : Stop} → log f back w ≡ failed x → recovering e end mark o ≡ failed x
@@ -92,9 +102,9 @@ module _ (e : Sheet) (s : State) (w : World) where
   unfolding lineEnd recover
   line-there p = rw p
 
-  pub line-refused : {n : ℕ} → expect e kind.Eol s w ≡ failed (refused n) → lineEnd e s w ≡ failed (refused n)
+  pub line-refused : (f : Failure) (v : World) → expect e kind.Eol s w ≡ failed (asStop f v) → 0 < f .number → lineEnd e s w ≡ failed (asStop f v)
   unfolding lineEnd recover
-  line-refused p = rw p
+  line-refused f v p h = rw p (rw (a-refusal f v h))
 
   -- where it is missing the line ends as its logging does
   pub line-missing : (o : Out Unit) {s1 back : State} {w1 : World} {f : Fault} → expect e kind.Eol s w ≡ failed (fault s1 w1 f) → back ≡ unbuilt s s1 → o ≡ log f back w1 → lineEnd e s w ≡ o

@@ -3,11 +3,8 @@
 use mathlib.Core.Path.{_≡_, refl, ap}
 use Rattle.cursor.specs.declared.Kids.{Kids}
 use Rattle.cursor.specs.declared.Ranged.{Ranged}
-use Rattle.cursor.specs.declared.Failure.{Failure}
-use Rattle.cursor.specs.declared.Failure.the-variants as failures
 use Rattle.cursor.specs.Rule.{World, Out, done, failed, Next, more, stop}
-use Rattle.cursor.specs.Answers.{asStop}
-use Rattle.cursor.proofs.Told.{Settled, heldBy, Told, backStop}
+use Rattle.cursor.proofs.Told.{Settled, heldBy, Told, backStop, failure, lost}
 use Rattle.types.specs.declared.items.Turned.{Turned}
 use Rattle.types.specs.declared.items.Turned.the-variants as turns
 use Rattle.parts.specs.declared.values.Expr.{Expr}
@@ -23,15 +20,6 @@ use Rattle.parts.specs.declared.imports.Imported.{Imported}
 use Rattle.parts.specs.declared.imports.Along.{Along}
 use Rattle.parts.specs.declared.imports.Along.the-variants as alongs
 use Rattle.parts.specs.Answers.{asParsed, asChained, asRowed, asKidsTurned, asAsked, asAlong}
-
--- a failure can be read off the stop that it stands for, and what the buffers hold off an error
-failure : (f : Failure) (w : World) → backStop (asStop f w) ≡ f
-failure (failures.Fault s f) w = refl
-failure (failures.Refused n) w = refl
-
-lost : (A : Type 0) (f : Failure) (d w : World) → Settled {A = A} (failed (asStop f w)) → heldBy {A = A} d (failed (asStop f w)) ≡ w
-lost A (failures.Fault s f) d w h = refl
-lost A (failures.Refused n) d w h = absurd h
 
 pub parsed : Told asParsed
 parsed = record { back = back; answer = answer; buffers = buffers }

@@ -32,10 +32,10 @@ use types::items::add_some;
 pub fn undone(mark: State, lost: Failure) -> Moved
     ensures { λ r. ⌜ ((w : World) → asMoved r w ≡ undo mark (asStop lost w)) ⌝ }
 {
-    match lost {
-        Failure::Fault(s, _) => Moved::On(rewind(mark, s)),
-        Failure::Refused(n) => Moved::Failed(Failure::Refused(n)),
+    if 0 < lost.number {
+        return Moved::Failed(lost);
     }
+    Moved::On(rewind(mark, lost.state))
 }
 
 // A state with the node records given back that were built since a mark.
@@ -94,21 +94,19 @@ pub fn recovered(
         Built::Node(s, link) => return Built::Node(s, link),
         Built::Failed(f) => f,
     };
-    match failed {
-        Failure::Fault(s, fault) => {
-            let back = give_back(mark, s);
-            let logged = log_error(errors, wanted, live, back, fault);
-            let s1 = match logged {
-                Moved::On(t) => t,
-                Moved::Failed(f) => return Built::Failed(f),
-            };
-            let past = skip(tokens, live, limits, s1, end);
-            match past {
-                Moved::On(t) => Built::Node(t, 0),
-                Moved::Failed(f) => Built::Failed(f),
-            }
-        }
-        Failure::Refused(n) => Built::Failed(Failure::Refused(n)),
+    if 0 < failed.number {
+        return Built::Failed(failed);
+    }
+    let back = give_back(mark, failed.state);
+    let logged = log_error(errors, wanted, live, back, failed.fault);
+    let s1 = match logged {
+        Moved::On(t) => t,
+        Moved::Failed(f) => return Built::Failed(f),
+    };
+    let past = skip(tokens, live, limits, s1, end);
+    match past {
+        Moved::On(t) => Built::Node(t, 0),
+        Moved::Failed(f) => Built::Failed(f),
     }
 }
 
@@ -128,13 +126,11 @@ fn line_end(
         Moved::On(t) => return Moved::On(t),
         Moved::Failed(f) => f,
     };
-    match failed {
-        Failure::Fault(t, fault) => {
-            let back = give_back(s, t);
-            log_error(errors, wanted, live, back, fault)
-        }
-        Failure::Refused(n) => Moved::Failed(Failure::Refused(n)),
+    if 0 < failed.number {
+        return Moved::Failed(failed);
     }
+    let back = give_back(s, failed.state);
+    log_error(errors, wanted, live, back, failed.fault)
 }
 
 // After a statement: the end of the statements, the end of input, which is logged, or a line's end. The statement joins its row last, when

@@ -10,12 +10,11 @@ use Rattle.kinds.specs.Number as kind
 use Rattle.kinds.specs.Kinds.{isTrivia}
 use Rattle.kinds.specs.Operators.{binaryOf}
 use Rattle.cursor.specs.declared.State.{State}
-use Rattle.cursor.specs.declared.Failure.the-variants as failures
 use Rattle.cursor.specs.declared.Built.the-variants as builds
 use Rattle.cursor.specs.Layout.{KIND, FIRST, cell}
 use Rattle.cursor.specs.Node as node
 use Rattle.cursor.specs.Sheet.{count, kindAt, rangeAt}
-use Rattle.cursor.specs.Rule.{turns, iterate}
+use Rattle.cursor.specs.Rule.{refusal, turns, iterate}
 use Rattle.cursor.specs.Buffer.{put}
 use Rattle.cursor.specs.Tokens.{pastFrom, pastTrivia, bump, eatTrivia, eolTurn, eatEol}
 use Rattle.cursor.specs.Checks.{want, check, eat, expect, eatRange, pickFrom}
@@ -53,7 +52,7 @@ name = kind.Ident ∷ 0 ∷ 1 ∷ []
 abbrev group-of-a-name : List ℕ
 group-of-a-name = kind.OpenParen ∷ 0 ∷ 1 ∷ kind.Ident ∷ 1 ∷ 2 ∷ kind.CloseParen ∷ 2 ∷ 3 ∷ []
 
-pub exprs-refused-for-readings : (κs : _) (x : _) → exprs.Post κs (begun [] 0 (kind.Eof, tt)) (rowed.Failed (failures.Refused 10)) x → ⊥
+pub exprs-refused-for-readings : (κs : _) (x : _) → exprs.Post κs (begun [] 0 (kind.Eof, tt)) (rowed.Failed (refusal 10)) x → ⊥
 unfolding knot
 exprs-refused-for-readings κs x p = apart ended p refl
 
@@ -91,7 +90,7 @@ pub prec-right-operand-at-its-own-level :
 unfolding knot precedence unary primary primaryOf atom form ident identAt expect eat start bump check want pickFrom pastTrivia pastFrom isTrivia kindAt rangeAt count put append write iterate turns postfixTurn braced access eatRange noMember infixTurn infixBy binaryOf operated couple close add
 prec-right-operand-at-its-own-level κs x p h = unlike (word (cell 4 FIRST)) p h refl
 
-pub program-refused-for-readings : (κs : _) (x : _) → whole.Post κs (begun [] 0 tt) (builds.Failed (failures.Refused 10)) x → ⊥
+pub program-refused-for-readings : (κs : _) (x : _) → whole.Post κs (begun [] 0 tt) (builds.Failed (refusal 10)) x → ⊥
 unfolding program knot start
 program-refused-for-readings κs x p = apart ended p refl
 

@@ -8,12 +8,11 @@ use lib.ListN.{getD}
 use Rattle.kinds.specs.Number as kind
 use Rattle.kinds.specs.Kinds.{isTrivia}
 use Rattle.cursor.specs.declared.Ranged.the-variants as ranged
-use Rattle.cursor.specs.declared.Failure.the-variants as failures
 use Rattle.cursor.specs.declared.Built.the-variants as builds
 use Rattle.cursor.specs.Layout.{END, FIRST, NEXT, ONE, cell}
 use Rattle.cursor.specs.Node as node
 use Rattle.cursor.specs.Sheet.{count, kindAt, rangeAt}
-use Rattle.cursor.specs.Rule.{Next, more, stop, turns, iterate}
+use Rattle.cursor.specs.Rule.{refusal, Next, more, stop, turns, iterate}
 use Rattle.cursor.specs.Buffer.{put}
 use Rattle.cursor.specs.Tokens.{pastFrom, pastTrivia, bump, eatTrivia, eolTurn, eatEol}
 use Rattle.cursor.specs.Checks.{want, check, eat, unexpected, expect, pickFrom}
@@ -155,6 +154,6 @@ pub pattern-depth-not-lowered : (κs : _) (x : _) → read-pattern.Post κs (bla
 unfolding patterns pattern patternBy patternRow patternItems patternItem patternEnd itemsUntilWithLast itemTurn oneItem start eatEol eatTrivia eolTurn iterate turns eat check want bump pickFrom pastTrivia pastFrom isTrivia kindAt count
 pattern-depth-not-lowered κs x p = apart ended (p [] []) refl
 
-pub pattern-refused-for-readings : (κs : _) (x : _) → read-pattern.Post κs (blank, (lent name, (room, (blank, (limits, (begin, (0, tt))))))) (builds.Failed (failures.Refused 10)) x → ⊥
+pub pattern-refused-for-readings : (κs : _) (x : _) → read-pattern.Post κs (blank, (lent name, (room, (blank, (limits, (begin, (0, tt))))))) (builds.Failed (refusal 10)) x → ⊥
 unfolding patterns
 pattern-refused-for-readings κs x p = apart ended (p [] []) refl

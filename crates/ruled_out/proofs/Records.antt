@@ -7,11 +7,10 @@ use Prim.Native.Nat.{ℕ, suc, _+_, _^_}
 use lib.ListN.{getD}
 use Rattle.cursor.specs.declared.State.{State}
 use Rattle.cursor.specs.declared.Ranged.the-variants as ranged
-use Rattle.cursor.specs.declared.Failure.the-variants as failures
 use Rattle.cursor.specs.declared.Built.the-variants as builds
 use Rattle.cursor.specs.Layout.{KIND, FIRST, NEXT, ONE, FLAGS, cell}
 use Rattle.cursor.specs.Node as node
-use Rattle.cursor.specs.Rule.{Next, more, stop}
+use Rattle.cursor.specs.Rule.{refusal, Next, more, stop}
 use Rattle.cursor.specs.Buffer.{put}
 use Rattle.cursor.specs.Records.{write, append, add, reflag, flagged}
 use Rattle.types.specs.declared.items.Listed.the-variants as listeds
@@ -101,7 +100,7 @@ pub list-record-not-counted : (κs : _) (x : _) → list-record.Post κs (room, 
 unfolding listRecord close append write put
 list-record-not-counted κs x p h = unlike (word (cell 1 FLAGS)) (p [] [] []) h refl
 
-pub list-record-in-spite-of-a-refusal : (κs : _) (x : _) → list-record.Post κs (room, (0, (node.List, (listeds.Failed (failures.Refused 9), tt)))) (builds.Node (built 1) 1) x → ⊥
+pub list-record-in-spite-of-a-refusal : (κs : _) (x : _) → list-record.Post κs (room, (0, (node.List, (listeds.Failed (refusal 9), tt)))) (builds.Node (built 1) 1) x → ⊥
 list-record-in-spite-of-a-refusal κs x p = apart ended (p [] [] []) refl
 
 -- blocks and functions
@@ -126,7 +125,7 @@ pub nameless-with-a-name : (κs : _) (x : _) → nameless.Post κs (room, (0, (b
 unfolding fnRecord addSome close add append write put
 nameless-with-a-name κs x p h = unlike (word (cell 1 FLAGS)) (p [] [] []) h refl
 
-pub nameless-in-spite-of-a-refusal : (κs : _) (x : _) → nameless.Post κs (room, (0, (builds.Failed (failures.Refused 9), tt))) (builds.Node (built 1) 1) x → ⊥
+pub nameless-in-spite-of-a-refusal : (κs : _) (x : _) → nameless.Post κs (room, (0, (builds.Failed (refusal 9), tt))) (builds.Node (built 1) 1) x → ⊥
 nameless-in-spite-of-a-refusal κs x p = apart ended (p [] [] []) refl
 
 pub function-record-of-a-closure : (κs : _) (x : _) → function-record.Post κs (room, (built 1, (0, (true, (so (row 0 0 0), (0, (1, tt))))))) (builds.Node (built 2) 2) x → getD (x .0 .now) (cell 1 KIND) 0 ≡ node.Function → ⊥
@@ -162,7 +161,7 @@ pub if-record-else-not-flagged : (κs : _) (x : _) → if-record.Post κs (room,
 unfolding ifRecord addSome close add append write put
 if-record-else-not-flagged κs x p h = unlike (word (cell 2 FLAGS)) (p [] [] []) h refl
 
-pub if-record-in-spite-of-a-refusal : (κs : _) (x : _) → if-record.Post κs (room, (0, (row 1 1 1, (builds.Failed (failures.Refused 9), tt)))) (builds.Node (built 3) 3) x → ⊥
+pub if-record-in-spite-of-a-refusal : (κs : _) (x : _) → if-record.Post κs (room, (0, (row 1 1 1, (builds.Failed (refusal 9), tt)))) (builds.Node (built 3) 3) x → ⊥
 if-record-in-spite-of-a-refusal κs x p = apart ended (p [] [] []) refl
 
 pub loop-record-as-while : (κs : _) (x : _) → loop-record.Post κs (room, (0, (builds.Node (built 1) 1, tt))) (builds.Node (built 2) 2) x → getD (x .0 .now) (cell 1 KIND) 0 ≡ node.While → ⊥

@@ -58,19 +58,19 @@ unlike {b = b} {n = n} f p h q = eqb-false (f b) n q (sym (ap f p) ∙ h)
 abbrev pub ended : {A : Type 0} → Out A → ℕ
 ended (done s w a) = 0
 ended (failed (fault s w f)) = 1
-ended (failed (refused n)) = n
+ended (failed (refused f)) = f .number
 
 -- the state that it leaves
 abbrev pub left : {A : Type 0} → Out A → State
 left (done s w a) = s
 left (failed (fault s w f)) = s
-left (failed (refused n)) = begin
+left (failed (refused f)) = begin
 
 -- a word of the node buffer that it leaves
 abbrev pub word : {A : Type 0} → ℕ → Out A → ℕ
 word i (done s w a) = getD (w .nodes) i 0
 word i (failed (fault s w f)) = getD (w .nodes) i 0
-word i (failed (refused n)) = 0
+word i (failed (refused f)) = 0
 
 -- what it answers, by a number for each answer
 abbrev pub answer : {A : Type 0} → (A → ℕ) → Out A → ℕ

@@ -7,16 +7,16 @@ use Prim.Native.Nat.{ℕ}
 use lib.ListN.{getD, replicate}
 use Rattle.kinds.specs.Number as kind
 use Rattle.kinds.specs.Kinds.{isTrivia}
+use Rattle.cursor.proofs.Told.{erred}
 use Rattle.cursor.specs.declared.State.{State}
 use Rattle.cursor.specs.declared.Fault.{Fault}
 use Rattle.cursor.specs.declared.Kids.{Kids}
 use Rattle.cursor.specs.declared.Ranged.the-variants as ranged
-use Rattle.cursor.specs.declared.Failure.the-variants as failures
 use Rattle.cursor.specs.declared.Moved.the-variants as moves
 use Rattle.cursor.specs.declared.Built.the-variants as builds
 use Rattle.cursor.specs.Layout.{FLAGS, cell}
 use Rattle.cursor.specs.Sheet.{count, kindAt, rangeAt}
-use Rattle.cursor.specs.Rule.{world, Next, more, stop, turns, iterate}
+use Rattle.cursor.specs.Rule.{refusal, world, Next, more, stop, turns, iterate}
 use Rattle.cursor.specs.Buffer.{put}
 use Rattle.cursor.specs.Tokens.{pastFrom, pastTrivia, bump, eatTrivia, eolTurn, eatEol, rewind}
 use Rattle.cursor.specs.Checks.{want, check, eat, unexpected, expect, pickFrom}
@@ -45,22 +45,22 @@ lost = record { class = 0; found = kind.Try; span = span 0 3; listed = false }
 abbrev further : State
 further = state 2 5 2 1 0
 
-pub undone-place-kept : (κs : _) (x : _) → undone.Post κs (begin, (failures.Fault further lost, tt)) (moves.On further) x → ⊥
+pub undone-place-kept : (κs : _) (x : _) → undone.Post κs (begin, (erred further lost, tt)) (moves.On further) x → ⊥
 unfolding rewind
 undone-place-kept κs x p = apart (λ o. left o .at) (p (world [] [] [] [])) refl
 
-pub undone-refusal-forgotten : (κs : _) (x : _) → undone.Post κs (begin, (failures.Refused 9, tt)) (moves.On begin) x → ⊥
+pub undone-refusal-forgotten : (κs : _) (x : _) → undone.Post κs (begin, (refusal 9, tt)) (moves.On begin) x → ⊥
 undone-refusal-forgotten κs x p = apart ended (p (world [] [] [] [])) refl
 
 -- behind a statement that failed at the end of the sheet, where an end of line was looked for
 abbrev recovery : ℕ → ℕ → State
 recovery nodes errors = record { at = 2; prev = 5; reads = 2; nodes = nodes; errors = errors; wanted = 0; live = 1 }
 
-pub recovered-error-not-logged : (κs : _) (x : _) → recovered.Post κs (blank, (lent (replicate 6 0), (blank, (blank, (limits, (begin, (kind.CloseBrace, (builds.Failed (failures.Fault further lost), tt)))))))) (builds.Node (recovery 0 0) 0) x → ⊥
+pub recovered-error-not-logged : (κs : _) (x : _) → recovered.Post κs (blank, (lent (replicate 6 0), (blank, (blank, (limits, (begin, (kind.CloseBrace, (builds.Failed (erred further lost), tt)))))))) (builds.Node (recovery 0 0) 0) x → ⊥
 unfolding recovering log skipped skip skipTurn iterate turns pickFrom check want kindAt count
 recovered-error-not-logged κs x p = apart (λ o. left o .errors) (p [] []) refl
 
-pub recovered-records-kept : (κs : _) (x : _) → recovered.Post κs (blank, (lent (replicate 6 0), (blank, (blank, (limits, (begin, (kind.CloseBrace, (builds.Failed (failures.Fault further lost), tt)))))))) (builds.Node (recovery 1 1) 0) x → ⊥
+pub recovered-records-kept : (κs : _) (x : _) → recovered.Post κs (blank, (lent (replicate 6 0), (blank, (blank, (limits, (begin, (kind.CloseBrace, (builds.Failed (erred further lost), tt)))))))) (builds.Node (recovery 1 1) 0) x → ⊥
 unfolding recovering log skipped skip skipTurn iterate turns pickFrom check want kindAt count
 recovered-records-kept κs x p = apart (λ o. left o .nodes) (p [] []) refl
 

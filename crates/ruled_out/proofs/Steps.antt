@@ -9,15 +9,15 @@ use Rattle.kinds.specs.Number as kind
 use Rattle.kinds.specs.Kinds.{isTrivia}
 use Rattle.kinds.specs.Spelling.{bytes, equal}
 use Rattle.kinds.specs.TypeWords.{typeWord}
+use Rattle.cursor.proofs.Told.{erred}
 use Rattle.cursor.specs.declared.Ranged.{Ranged}
 use Rattle.cursor.specs.declared.Ranged.the-variants as ranged
-use Rattle.cursor.specs.declared.Failure.the-variants as failures
 use Rattle.cursor.specs.declared.Test.the-variants as tests
 use Rattle.cursor.specs.declared.Built.the-variants as builds
 use Rattle.cursor.specs.Layout.{KIND, END, FIRST, ONE}
 use Rattle.cursor.specs.Node as node
 use Rattle.cursor.specs.Sheet.{count, kindAt, rangeAt}
-use Rattle.cursor.specs.Rule.{world, turns, iterate}
+use Rattle.cursor.specs.Rule.{refusal, world, turns, iterate}
 use Rattle.cursor.specs.Buffer.{put}
 use Rattle.cursor.specs.Tokens.{pastFrom, pastTrivia, bump}
 use Rattle.cursor.specs.Checks.{want, check, eat, unexpected, expect, eatRange, pickFrom}
@@ -112,7 +112,7 @@ pub no-member-after-a-question : (κs : _) (x : _) → no-member.Post κs (blank
 unfolding noMember unexpected
 no-member-after-a-question κs x p = apart ended (p [] limits (world [] [] [] [])) refl
 
-pub no-member-always-an-error : (κs : _) (x : _) → no-member.Post κs (blank, (begin, (sorts.Name 1, (ranged.Nowhere, tt)))) (chained.Failed (failures.Fault begin (record { class = 0; found = kind.Eof; span = span 0 0; listed = true }))) x → ⊥
+pub no-member-always-an-error : (κs : _) (x : _) → no-member.Post κs (blank, (begin, (sorts.Name 1, (ranged.Nowhere, tt)))) (chained.Failed (erred begin (record { class = 0; found = kind.Eof; span = span 0 0; listed = true }))) x → ⊥
 unfolding noMember
 no-member-always-an-error κs x p = apart ended (p [] limits (world [] [] [] [])) refl
 
@@ -161,7 +161,7 @@ pub loop-names-without-in : (κs : _) (x : _) → loop-names.Post κs (lent (tok
 unfolding loopNames names nameTurn iterate turns ident identAt expect unexpected eat check want bump pastTrivia pastFrom kindAt rangeAt count append add
 loop-names-without-in κs x p = apart ended (p [] [] []) refl
 
-pub case-patterns-refused-for-readings : (κs : _) (x : _) → case-patterns.Post κs (blank, (lent (token kind.Ident), (room, (blank, (limits, (begin, (0, tt))))))) (rowed.Failed (failures.Refused 10)) x → ⊥
+pub case-patterns-refused-for-readings : (κs : _) (x : _) → case-patterns.Post κs (blank, (lent (token kind.Ident), (room, (blank, (limits, (begin, (0, tt))))))) (rowed.Failed (refusal 10)) x → ⊥
 unfolding casePatterns patternTurn iterate turns patterns
 case-patterns-refused-for-readings κs x p = apart ended (p [] []) refl
 

@@ -10,12 +10,11 @@ use Rattle.kinds.specs.Number as kind
 use Rattle.kinds.specs.Kinds.{isTrivia}
 use Rattle.cursor.specs.declared.State.{State}
 use Rattle.cursor.specs.declared.Limits.{Limits}
-use Rattle.cursor.specs.declared.Failure.the-variants as failures
 use Rattle.cursor.specs.declared.Built.the-variants as builds
 use Rattle.cursor.specs.Layout.{KIND, FIRST, FLAGS, cell}
 use Rattle.cursor.specs.Node as node
 use Rattle.cursor.specs.Sheet.{count, kindAt, rangeAt}
-use Rattle.cursor.specs.Rule.{turns, iterate}
+use Rattle.cursor.specs.Rule.{refusal, turns, iterate}
 use Rattle.cursor.specs.Buffer.{put}
 use Rattle.cursor.specs.Tokens.{pastFrom, pastTrivia, bump, eatTrivia, eolTurn, eatEol}
 use Rattle.cursor.specs.Checks.{want, check, eat, unexpected, expect, pickFrom}
@@ -50,7 +49,7 @@ parens = kind.OpenParen ∷ 0 ∷ 1 ∷ kind.CloseParen ∷ 1 ∷ 2 ∷ []
 abbrev bars : List ℕ
 bars = kind.VBar ∷ 0 ∷ 1 ∷ kind.VBar ∷ 1 ∷ 2 ∷ []
 
-pub ty-refused-for-readings : (κs : _) (x : _) → ty.Post κs (begun name 0 tt) (builds.Failed (failures.Refused 10)) x → ⊥
+pub ty-refused-for-readings : (κs : _) (x : _) → ty.Post κs (begun name 0 tt) (builds.Failed (refusal 10)) x → ⊥
 unfolding type start atoms
 ty-refused-for-readings κs x p = apart ended (p [] []) refl
 

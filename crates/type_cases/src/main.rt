@@ -67,7 +67,7 @@ fn print_listing(nodes: &[u32], errors: &[u32], expected: &[u8], counts: Counts)
 }
 
 // A refusal's number is 7 to 11.
-fn print_refusal(number: usize) {
+fn print_refusal(number: u32) {
     if 11 < number {
         return;
     }
@@ -145,10 +145,11 @@ fn print_fault(live: &[u8; 1024], s: State, f: Fault) {
 }
 
 fn print_failure(live: &[u8; 1024], failure: Failure) {
-    match failure {
-        Failure::Fault(s, f) => print_fault(live, s, f),
-        Failure::Refused(n) => print_refusal(n),
+    if 0 < failure.number {
+        print_refusal(failure.number);
+        return;
     }
+    print_fault(live, failure.state, failure.fault);
 }
 
 fn print_form(form: u8) {

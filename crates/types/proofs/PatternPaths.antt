@@ -11,7 +11,7 @@ use Rattle.cursor.specs.declared.Ranged.{Ranged}
 use Rattle.cursor.specs.declared.Ranged.the-variants as ranged
 use Rattle.cursor.specs.Node as node
 use Rattle.cursor.specs.Sheet.{Sheet, rangeAt}
-use Rattle.cursor.specs.Rule.{World, Stop, done, failed, refused, Rule, iterate}
+use Rattle.cursor.specs.Rule.{World, Stop, done, failed, refusal, refused, Rule, iterate}
 use Rattle.cursor.specs.Tokens.{startOf, bump, eatEol}
 use Rattle.cursor.specs.Checks.{expect, pick}
 use Rattle.cursor.specs.Records.{noKids, flagged}
@@ -129,7 +129,7 @@ module _ (e : Sheet) (inner : Rule ℕ) where
   by-lit from (suc (suc (suc k))) s w p q r = refl
 
 module _ (e : Sheet) (s : State) (w : World) where
-  pub patterns-none : (d : ℕ) → d ≡ 0 → patterns e d s w ≡ failed (refused 9)
+  pub patterns-none : (d : ℕ) → d ≡ 0 → patterns e d s w ≡ failed (refused (refusal 9))
   unfolding patterns
   patterns-none d p = rw (p, patterns)
 

@@ -10,7 +10,7 @@ use Rattle.cursor.specs.declared.State.{State}
 use Rattle.cursor.specs.declared.Kids.{Kids}
 use Rattle.cursor.specs.Node as node
 use Rattle.cursor.specs.Sheet.{Sheet, rangeAt}
-use Rattle.cursor.specs.Rule.{World, Stop, Out, done, failed, refused, Rule, more, stop, iterate}
+use Rattle.cursor.specs.Rule.{World, Stop, Out, done, failed, refusal, refused, Rule, more, stop, iterate}
 use Rattle.cursor.specs.Tokens.{startOf, bump, eatEol}
 use Rattle.cursor.specs.Checks.{check, eat, expect, pick}
 use Rattle.cursor.specs.Records.{add, noKids, flagged}
@@ -287,7 +287,7 @@ module _ (e : Sheet) (atom : Rule ℕ) where
 
 -- type atoms
 module _ (e : Sheet) (d : ℕ) (s : State) (w : World) where
-  pub atoms-none : d ≡ 0 → atoms e d s w ≡ failed (refused 9)
+  pub atoms-none : d ≡ 0 → atoms e d s w ≡ failed (refused (refusal 9))
   unfolding atoms
   atoms-none p = rw (p, atoms)
 

@@ -6,10 +6,9 @@ use mathlib.Core.Path.{_≡_, refl, sym, ap, _∙_}
 use mathlib.Core.List.{List, []}
 use Prim.Native.Nat.{ℕ}
 use Rattle.cursor.specs.declared.State.{State}
-use Rattle.cursor.specs.declared.Failure.the-variants as failures
 use Rattle.cursor.specs.Rule.{World, world, Out, done, failed, Next, more, stop}
 use Rattle.cursor.specs.Answers.{asBuilt}
-use Rattle.cursor.proofs.Told.{Settled, heldBy, Told, one, backStop, built}
+use Rattle.cursor.proofs.Told.{Settled, heldBy, Told, one, backStop, failure, lost, built}
 use Rattle.types.specs.declared.items.Items.{Items}
 use Rattle.types.specs.declared.items.Listed.{Listed}
 use Rattle.types.specs.declared.items.Listed.the-variants as listeds
@@ -44,13 +43,11 @@ listed = record { back = back; answer = answer; buffers = buffers }
 
     answer : (r : Listed) (w : World) → back (asListed r w) ≡ r
     answer (listeds.Row s i) w = refl
-    answer (listeds.Failed (failures.Fault s f)) w = refl
-    answer (listeds.Failed (failures.Refused n)) w = refl
+    answer (listeds.Failed f) w = ap listeds.Failed (failure f w)
 
     buffers : (r : Listed) (d w : World) → Settled (asListed r w) → heldBy d (asListed r w) ≡ w
     buffers (listeds.Row s i) d w h = refl
-    buffers (listeds.Failed (failures.Fault s f)) d w h = refl
-    buffers (listeds.Failed (failures.Refused n)) d w h = absurd h
+    buffers (listeds.Failed f) d w h = lost Items f d w h
 
 pub turned : Told asTurned
 turned = record { back = back; answer = answer; buffers = buffers }
@@ -63,14 +60,12 @@ turned = record { back = back; answer = answer; buffers = buffers }
     answer : (r : Turned) (w : World) → back (asTurned r w) ≡ r
     answer (turns.More s k) w = refl
     answer (turns.Stop s k) w = refl
-    answer (turns.Failed (failures.Fault s f)) w = refl
-    answer (turns.Failed (failures.Refused n)) w = refl
+    answer (turns.Failed f) w = ap turns.Failed (failure f w)
 
     buffers : (r : Turned) (d w : World) → Settled (asTurned r w) → heldBy d (asTurned r w) ≡ w
     buffers (turns.More s k) d w h = refl
     buffers (turns.Stop s k) d w h = refl
-    buffers (turns.Failed (failures.Fault s f)) d w h = refl
-    buffers (turns.Failed (failures.Refused n)) d w h = absurd h
+    buffers (turns.Failed f) d w h = lost (Next Items) f d w h
 
 -- what a rule holds that is lent the node buffer and the live list; where one of them is not lent, it is taken as empty
 abbrev held : List ℕ → List ℕ → World

@@ -121,23 +121,33 @@ pub fn lit(text: &[u8], tokens: &[u32], nodes: &mut [u32], limits: Limits, s: St
     let here = current_range(tokens, s);
     let span = match here {
         Ranged::At(r) => r,
-        Ranged::Nowhere => return Built::Failed(Failure::Fault(s, unexpected(tokens, s))),
+        Ranged::Nowhere => return Built::Failed(Failure {
+            state: s,
+            number: 0,
+            fault: unexpected(tokens, s),
+        }),
     };
     let found = literal_of(text, current_kind(tokens, s), span);
     let label = match found {
         Literal::Value(l) => l,
         Literal::Faulty(n) => {
-            return Built::Failed(Failure::Fault(
-                s,
-                Fault {
-                    class: 1,
-                    found: n as u32,
-                    span,
-                    listed: false,
-                },
-            ));
+            let fault = Fault {
+                class: 1,
+                found: n as u32,
+                span,
+                listed: false,
+            };
+            return Built::Failed(Failure {
+                state: s,
+                number: 0,
+                fault,
+            });
         }
-        Literal::Nothing => return Built::Failed(Failure::Fault(s, unexpected(tokens, s))),
+        Literal::Nothing => return Built::Failed(Failure {
+            state: s,
+            number: 0,
+            fault: unexpected(tokens, s),
+        }),
     };
     let taken = bump(tokens, limits, s);
     let s1 = match taken {
@@ -160,7 +170,11 @@ pub fn ident(
     let here = current_range(tokens, s);
     let span = match here {
         Ranged::At(r) => r,
-        Ranged::Nowhere => return Built::Failed(Failure::Fault(s, unexpected(tokens, s))),
+        Ranged::Nowhere => return Built::Failed(Failure {
+            state: s,
+            number: 0,
+            fault: unexpected(tokens, s),
+        }),
     };
     let named = expect(tokens, live, limits, s, kinds::IDENT);
     let s1 = match named {

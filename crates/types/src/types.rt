@@ -20,7 +20,6 @@ use crate::items::pair;
 use crate::lits::ident;
 use crate::lits::lit;
 use cursor::Built;
-use cursor::Failure;
 use cursor::Kids;
 use cursor::Limits;
 use cursor::Moved;
@@ -28,6 +27,7 @@ use cursor::Picked;
 use cursor::Ranged;
 use cursor::Span;
 use cursor::State;
+use cursor::TOO_DEEP;
 use cursor::Test;
 use cursor::checks::check;
 use cursor::checks::eat;
@@ -583,7 +583,7 @@ pub fn type_atom(
     ensures { λ r. ⌜ ((e x : List ℕ) → asBuilt r (world (now (nodes .exit)) e x (now (live .exit))) ≡ atoms (sheet (now (text .entry)) (now (tokens .entry)) limits) depth s (world (now (nodes .entry)) e x (now (live .entry)))) ⌝ }
 {
     if depth == 0 {
-        return Built::Failed(Failure::Refused(9));
+        return Built::Failed(TOO_DEEP);
     }
     let inner = depth - 1;
     let from = start_range(tokens, s);

@@ -31,6 +31,7 @@ use Rattle.exprs.specs.Levels.{levels, under}
 use Prim.Native.Nat.{ℕ, _+_, _-_, _*_, _/_}
 use mathlib.Core.List.{List, []}
 use mathlib.Core.Path.{_≡_, refl, sym, ap, _∙_}
+use mathlib.Core.Logic.{⊎-elim}
 use native.Mathlib.Omega.{arith}
 use borrow.Author.Tests.{not-true}
 use lib.ListN.{length}
@@ -7010,7 +7011,7 @@ exprs-returns : (t : ℕ) → exprs-lts.Need-returns (
 ) (exprs-at t) exprs.Post exprs-Inv-loop exprs-μ-loop
 exprs-returns t c = sym (lv.body-none _ _ _ _ (c .if1 .taken) _)
 
-exprs-sub-t38 : (t : ℕ) → exprs-lts.Need-sub-t38 (
+exprs-sub-t41 : (t : ℕ) → exprs-lts.Need-sub-t41 (
   eat-eol-reads.Asked,
   eat-eol-reads.Learnt,
   eat-reads.Asked,
@@ -7022,7 +7023,7 @@ exprs-sub-t38 : (t : ℕ) → exprs-lts.Need-sub-t38 (
   after-stmt-reads.Asked,
   after-stmt-reads.Learnt,
 ) (exprs-at t) exprs.Post exprs-Inv-loop exprs-μ-loop
-exprs-sub-t38 t c = search needs
+exprs-sub-t41 t c = search needs
 
 exprs-eat-eol-requires : (t : ℕ) → exprs-lts.Need-eat-eol-requires (
   eat-eol-reads.Asked,
@@ -17047,422 +17048,352 @@ set-returns-4 t c = let c₁ = c .before .before .before .before .before .before
 stmt-check-requires : (t : ℕ) → stmt-lts.Need-check-requires (
   check-reads.Asked,
   check-reads.Learnt,
-  plain-below t,
-  plain.Post,
   start-range-reads.Asked,
   start-range-reads.Learnt,
   def-below t,
   def.Post,
   undone-reads.Asked,
   undone-reads.Learnt,
+  plain-below t,
+  plain.Post,
 ) (stmt-at t) stmt.Post
 stmt-check-requires t c κs = tt
 
 stmt-enum-known-named : (t : ℕ) → stmt-lts.Need-enum-known-named (
   check-reads.Asked,
   check-reads.Learnt,
-  plain-below t,
-  plain.Post,
   start-range-reads.Asked,
   start-range-reads.Learnt,
   def-below t,
   def.Post,
   undone-reads.Asked,
   undone-reads.Learnt,
+  plain-below t,
+  plain.Post,
 ) (stmt-at t) stmt.Post
 stmt-enum-known-named t c = c .match .keys1
-
-stmt-enum-known-named-2 : (t : ℕ) → stmt-lts.Need-enum-known-named-2 (
-  check-reads.Asked,
-  check-reads.Learnt,
-  plain-below t,
-  plain.Post,
-  start-range-reads.Asked,
-  start-range-reads.Learnt,
-  def-below t,
-  def.Post,
-  undone-reads.Asked,
-  undone-reads.Learnt,
-) (stmt-at t) stmt.Post
-stmt-enum-known-named-2 t c = c .match .keys2
-
-stmt-plain-requires : (t : ℕ) → stmt-lts.Need-plain-requires (
-  check-reads.Asked,
-  check-reads.Learnt,
-  plain-below t,
-  plain.Post,
-  start-range-reads.Asked,
-  start-range-reads.Learnt,
-  def-below t,
-  def.Post,
-  undone-reads.Asked,
-  undone-reads.Learnt,
-) (stmt-at t) stmt.Post
-stmt-plain-requires t c κs = (omega (arith, c .before .before .before .before .before .before .before .before .before .before .before .before .before .before .pre .0), tt)
-
-stmt-same-length : (t : ℕ) → stmt-lts.Need-same-length (
-  check-reads.Asked,
-  check-reads.Learnt,
-  plain-below t,
-  plain.Post,
-  start-range-reads.Asked,
-  start-range-reads.Learnt,
-  def-below t,
-  def.Post,
-  undone-reads.Asked,
-  undone-reads.Learnt,
-) (stmt-at t) stmt.Post
-stmt-same-length t c = (c .before .before .before .before .before .before .plain .kept .1 .1 .0)
-
-stmt-same-length-2 : (t : ℕ) → stmt-lts.Need-same-length-2 (
-  check-reads.Asked,
-  check-reads.Learnt,
-  plain-below t,
-  plain.Post,
-  start-range-reads.Asked,
-  start-range-reads.Learnt,
-  def-below t,
-  def.Post,
-  undone-reads.Asked,
-  undone-reads.Learnt,
-) (stmt-at t) stmt.Post
-stmt-same-length-2 t c = (c .before .before .before .before .before .before .plain .kept .1 .1 .1 .0)
-
-stmt-same-length-3 : (t : ℕ) → stmt-lts.Need-same-length-3 (
-  check-reads.Asked,
-  check-reads.Learnt,
-  plain-below t,
-  plain.Post,
-  start-range-reads.Asked,
-  start-range-reads.Learnt,
-  def-below t,
-  def.Post,
-  undone-reads.Asked,
-  undone-reads.Learnt,
-) (stmt-at t) stmt.Post
-stmt-same-length-3 t c = (c .before .before .before .before .before .before .plain .kept .1 .1 .1 .1 .0)
-
-stmt-returns : (t : ℕ) → stmt-lts.Need-returns (
-  check-reads.Asked,
-  check-reads.Learnt,
-  plain-below t,
-  plain.Post,
-  start-range-reads.Asked,
-  start-range-reads.Learnt,
-  def-below t,
-  def.Post,
-  undone-reads.Asked,
-  undone-reads.Learnt,
-) (stmt-at t) stmt.Post
-stmt-returns t c = let c₁ = c .before .before .before .before .before .before in let c₂ = c₁ .before .before .before .before .before .before in let c₃ = c₂ .before .before in c₁ .plain .ensures ∙ sym (st.stmt-plain _ _ _ (via asTest (c₃ .check .ensures _ _ _ _ _) (c₂ .named2 .given .1)))
-
-stmt-enum-known-named-3 : (t : ℕ) → stmt-lts.Need-enum-known-named-3 (
-  check-reads.Asked,
-  check-reads.Learnt,
-  plain-below t,
-  plain.Post,
-  start-range-reads.Asked,
-  start-range-reads.Learnt,
-  def-below t,
-  def.Post,
-  undone-reads.Asked,
-  undone-reads.Learnt,
-) (stmt-at t) stmt.Post
-stmt-enum-known-named-3 t c = c .match .keys3
-
-stmt-returns-2 : (t : ℕ) → stmt-lts.Need-returns-2 (
-  check-reads.Asked,
-  check-reads.Learnt,
-  plain-below t,
-  plain.Post,
-  start-range-reads.Asked,
-  start-range-reads.Learnt,
-  def-below t,
-  def.Post,
-  undone-reads.Asked,
-  undone-reads.Learnt,
-) (stmt-at t) stmt.Post
-stmt-returns-2 t c = sym (st.stmt-full _ _ _ (via asTest (c .before .before .before .check .ensures _ _ _ _ _) (c .before .named3 .given .1)))
 
 stmt-start-range-requires : (t : ℕ) → stmt-lts.Need-start-range-requires (
   check-reads.Asked,
   check-reads.Learnt,
-  plain-below t,
-  plain.Post,
   start-range-reads.Asked,
   start-range-reads.Learnt,
   def-below t,
   def.Post,
   undone-reads.Asked,
   undone-reads.Learnt,
+  plain-below t,
+  plain.Post,
 ) (stmt-at t) stmt.Post
 stmt-start-range-requires t c κs = tt
 
 stmt-def-requires : (t : ℕ) → stmt-lts.Need-def-requires (
   check-reads.Asked,
   check-reads.Learnt,
-  plain-below t,
-  plain.Post,
   start-range-reads.Asked,
   start-range-reads.Learnt,
   def-below t,
   def.Post,
   undone-reads.Asked,
   undone-reads.Learnt,
+  plain-below t,
+  plain.Post,
 ) (stmt-at t) stmt.Post
 stmt-def-requires t c κs = (omega (arith, c .before .before .before .before .before .before .before .before .before .before .before .before .before .before .before .pre .0), tt)
 
 stmt-enum-known-tried : (t : ℕ) → stmt-lts.Need-enum-known-tried (
   check-reads.Asked,
   check-reads.Learnt,
-  plain-below t,
-  plain.Post,
   start-range-reads.Asked,
   start-range-reads.Learnt,
   def-below t,
   def.Post,
   undone-reads.Asked,
   undone-reads.Learnt,
+  plain-below t,
+  plain.Post,
 ) (stmt-at t) stmt.Post
 stmt-enum-known-tried t c = c .match2 .keys1
 
-stmt-same-length-4 : (t : ℕ) → stmt-lts.Need-same-length-4 (
+stmt-same-length : (t : ℕ) → stmt-lts.Need-same-length (
   check-reads.Asked,
   check-reads.Learnt,
-  plain-below t,
-  plain.Post,
   start-range-reads.Asked,
   start-range-reads.Learnt,
   def-below t,
   def.Post,
   undone-reads.Asked,
   undone-reads.Learnt,
+  plain-below t,
+  plain.Post,
 ) (stmt-at t) stmt.Post
-stmt-same-length-4 t c = (c .before .before .before .before .before .before .before .before .before .def .kept .1 .1 .0)
+stmt-same-length t c = (c .before .before .before .before .before .before .before .before .before .def .kept .1 .1 .0)
 
-stmt-same-length-5 : (t : ℕ) → stmt-lts.Need-same-length-5 (
+stmt-same-length-2 : (t : ℕ) → stmt-lts.Need-same-length-2 (
   check-reads.Asked,
   check-reads.Learnt,
-  plain-below t,
-  plain.Post,
   start-range-reads.Asked,
   start-range-reads.Learnt,
   def-below t,
   def.Post,
   undone-reads.Asked,
   undone-reads.Learnt,
+  plain-below t,
+  plain.Post,
 ) (stmt-at t) stmt.Post
-stmt-same-length-5 t c = (c .before .before .before .before .before .before .before .before .before .def .kept .1 .1 .1 .0)
+stmt-same-length-2 t c = (c .before .before .before .before .before .before .before .before .before .def .kept .1 .1 .1 .0)
 
-stmt-same-length-6 : (t : ℕ) → stmt-lts.Need-same-length-6 (
+stmt-same-length-3 : (t : ℕ) → stmt-lts.Need-same-length-3 (
   check-reads.Asked,
   check-reads.Learnt,
-  plain-below t,
-  plain.Post,
   start-range-reads.Asked,
   start-range-reads.Learnt,
   def-below t,
   def.Post,
   undone-reads.Asked,
   undone-reads.Learnt,
+  plain-below t,
+  plain.Post,
 ) (stmt-at t) stmt.Post
-stmt-same-length-6 t c = (c .before .before .before .before .before .before .before .before .before .def .kept .1 .1 .1 .1 .0)
+stmt-same-length-3 t c = (c .before .before .before .before .before .before .before .before .before .def .kept .1 .1 .1 .1 .0)
 
-stmt-returns-3 : (t : ℕ) → stmt-lts.Need-returns-3 (
+stmt-returns : (t : ℕ) → stmt-lts.Need-returns (
   check-reads.Asked,
   check-reads.Learnt,
-  plain-below t,
-  plain.Post,
   start-range-reads.Asked,
   start-range-reads.Learnt,
   def-below t,
   def.Post,
   undone-reads.Asked,
   undone-reads.Learnt,
+  plain-below t,
+  plain.Post,
 ) (stmt-at t) stmt.Post
-stmt-returns-3 t c = let c₁ = c .before in let c₂ = c₁ .before .before .before .before .before .before .before .before in let c₃ = c₂ .before .before .before .before .before in let c₄ = c₃ .before .before in let c₅ = c₄ .before .before in sym (st.stmt-tried _ _ _ (via asTest (c₅ .check .ensures _ _ _ _ _) (c₄ .named .given .1)) ∙ attempts.kept _ _ _ _ _ (st.function-stmt-is _ _ _ (c₃ .start-range .ensures) ∙ (via asBuilt (c₂ .def .ensures) (c₁ .tried .given .1))))
+stmt-returns t c = let c₁ = c .before in let c₂ = c₁ .before .before .before .before .before .before .before .before in let c₃ = c₂ .before .before .before .before .before in let c₄ = c₃ .before .before in let c₅ = c₄ .before .before in sym (st.stmt-tried _ _ _ (via asTest (c₅ .check .ensures _ _ _ _ _) (c₄ .named .given .1)) ∙ attempts.kept _ _ _ _ _ (st.function-stmt-is _ _ _ (c₃ .start-range .ensures) ∙ (via asBuilt (c₂ .def .ensures) (c₁ .tried .given .1))))
 
 stmt-enum-known-tried-2 : (t : ℕ) → stmt-lts.Need-enum-known-tried-2 (
   check-reads.Asked,
   check-reads.Learnt,
-  plain-below t,
-  plain.Post,
   start-range-reads.Asked,
   start-range-reads.Learnt,
   def-below t,
   def.Post,
   undone-reads.Asked,
   undone-reads.Learnt,
+  plain-below t,
+  plain.Post,
 ) (stmt-at t) stmt.Post
 stmt-enum-known-tried-2 t c = c .match2 .keys2
 
 stmt-undone-requires : (t : ℕ) → stmt-lts.Need-undone-requires (
   check-reads.Asked,
   check-reads.Learnt,
-  plain-below t,
-  plain.Post,
   start-range-reads.Asked,
   start-range-reads.Learnt,
   def-below t,
   def.Post,
   undone-reads.Asked,
   undone-reads.Learnt,
+  plain-below t,
+  plain.Post,
 ) (stmt-at t) stmt.Post
 stmt-undone-requires t c κs = tt
 
 stmt-enum-known-back : (t : ℕ) → stmt-lts.Need-enum-known-back (
   check-reads.Asked,
   check-reads.Learnt,
-  plain-below t,
-  plain.Post,
   start-range-reads.Asked,
   start-range-reads.Learnt,
   def-below t,
   def.Post,
   undone-reads.Asked,
   undone-reads.Learnt,
+  plain-below t,
+  plain.Post,
 ) (stmt-at t) stmt.Post
 stmt-enum-known-back t c = c .match3 .keys1
-
-stmt-plain-requires-2 : (t : ℕ) → stmt-lts.Need-plain-requires-2 (
-  check-reads.Asked,
-  check-reads.Learnt,
-  plain-below t,
-  plain.Post,
-  start-range-reads.Asked,
-  start-range-reads.Learnt,
-  def-below t,
-  def.Post,
-  undone-reads.Asked,
-  undone-reads.Learnt,
-) (stmt-at t) stmt.Post
-stmt-plain-requires-2 t c κs = (omega (arith, c .before .before .before .before .before .before .before .before .before .before .before .before .before .before .before .before .before .before .before .before .before .before .before .before .before .before .before .before .before .before .before .before .before .pre .0), tt)
 
 stmt-enum-known-back-2 : (t : ℕ) → stmt-lts.Need-enum-known-back-2 (
   check-reads.Asked,
   check-reads.Learnt,
-  plain-below t,
-  plain.Post,
   start-range-reads.Asked,
   start-range-reads.Learnt,
   def-below t,
   def.Post,
   undone-reads.Asked,
   undone-reads.Learnt,
+  plain-below t,
+  plain.Post,
 ) (stmt-at t) stmt.Post
 stmt-enum-known-back-2 t c = c .match3 .keys2
+
+stmt-same-length-4 : (t : ℕ) → stmt-lts.Need-same-length-4 (
+  check-reads.Asked,
+  check-reads.Learnt,
+  start-range-reads.Asked,
+  start-range-reads.Learnt,
+  def-below t,
+  def.Post,
+  undone-reads.Asked,
+  undone-reads.Learnt,
+  plain-below t,
+  plain.Post,
+) (stmt-at t) stmt.Post
+stmt-same-length-4 t c = (c .before .before .before .before .before .before .before .before .before .before .before .before .before .def .kept .1 .1 .0)
+
+stmt-same-length-5 : (t : ℕ) → stmt-lts.Need-same-length-5 (
+  check-reads.Asked,
+  check-reads.Learnt,
+  start-range-reads.Asked,
+  start-range-reads.Learnt,
+  def-below t,
+  def.Post,
+  undone-reads.Asked,
+  undone-reads.Learnt,
+  plain-below t,
+  plain.Post,
+) (stmt-at t) stmt.Post
+stmt-same-length-5 t c = (c .before .before .before .before .before .before .before .before .before .before .before .before .before .def .kept .1 .1 .1 .0)
+
+stmt-same-length-6 : (t : ℕ) → stmt-lts.Need-same-length-6 (
+  check-reads.Asked,
+  check-reads.Learnt,
+  start-range-reads.Asked,
+  start-range-reads.Learnt,
+  def-below t,
+  def.Post,
+  undone-reads.Asked,
+  undone-reads.Learnt,
+  plain-below t,
+  plain.Post,
+) (stmt-at t) stmt.Post
+stmt-same-length-6 t c = (c .before .before .before .before .before .before .before .before .before .before .before .before .before .def .kept .1 .1 .1 .1 .0)
+
+stmt-returns-2 : (t : ℕ) → stmt-lts.Need-returns-2 (
+  check-reads.Asked,
+  check-reads.Learnt,
+  start-range-reads.Asked,
+  start-range-reads.Learnt,
+  def-below t,
+  def.Post,
+  undone-reads.Asked,
+  undone-reads.Learnt,
+  plain-below t,
+  plain.Post,
+) (stmt-at t) stmt.Post
+stmt-returns-2 t c = let c₁ = c .before in let c₂ = c₁ .before .before in let c₃ = c₂ .before .before in let c₄ = c₃ .before .before .before .before .before .before .before .before in let c₅ = c₄ .before .before .before .before .before in let c₆ = c₅ .before .before in let c₇ = c₆ .before .before in sym (st.stmt-tried _ _ _ (via asTest (c₇ .check .ensures _ _ _ _ _) (c₆ .named .given .1)) ∙ attempts.lost _ _ _ _ _ (st.function-stmt-is _ _ _ (c₅ .start-range .ensures) ∙ (via asBuilt (c₄ .def .ensures) (c₃ .tried2 .given .1))) (via asMoved (c₂ .undone .ensures _) (c₁ .back2 .given .1)))
+
+stmt-enum-known-named-2 : (t : ℕ) → stmt-lts.Need-enum-known-named-2 (
+  check-reads.Asked,
+  check-reads.Learnt,
+  start-range-reads.Asked,
+  start-range-reads.Learnt,
+  def-below t,
+  def.Post,
+  undone-reads.Asked,
+  undone-reads.Learnt,
+  plain-below t,
+  plain.Post,
+) (stmt-at t) stmt.Post
+stmt-enum-known-named-2 t c = c .match .keys2
+
+stmt-enum-known-named-3 : (t : ℕ) → stmt-lts.Need-enum-known-named-3 (
+  check-reads.Asked,
+  check-reads.Learnt,
+  start-range-reads.Asked,
+  start-range-reads.Learnt,
+  def-below t,
+  def.Post,
+  undone-reads.Asked,
+  undone-reads.Learnt,
+  plain-below t,
+  plain.Post,
+) (stmt-at t) stmt.Post
+stmt-enum-known-named-3 t c = c .match .keys3
+
+stmt-returns-3 : (t : ℕ) → stmt-lts.Need-returns-3 (
+  check-reads.Asked,
+  check-reads.Learnt,
+  start-range-reads.Asked,
+  start-range-reads.Learnt,
+  def-below t,
+  def.Post,
+  undone-reads.Asked,
+  undone-reads.Learnt,
+  plain-below t,
+  plain.Post,
+) (stmt-at t) stmt.Post
+stmt-returns-3 t c = sym (st.stmt-full _ _ _ (via asTest (c .before .before .before .check .ensures _ _ _ _ _) (c .before .named3 .given .1)))
+
+stmt-plain-requires : (t : ℕ) → stmt-lts.Need-plain-requires (
+  check-reads.Asked,
+  check-reads.Learnt,
+  start-range-reads.Asked,
+  start-range-reads.Learnt,
+  def-below t,
+  def.Post,
+  undone-reads.Asked,
+  undone-reads.Learnt,
+  plain-below t,
+  plain.Post,
+) (stmt-at t) stmt.Post
+stmt-plain-requires t c κs = (omega (arith, c .before .before .before .before .before .before .before .before .before .before .before .before .pre .0), tt)
 
 stmt-same-length-7 : (t : ℕ) → stmt-lts.Need-same-length-7 (
   check-reads.Asked,
   check-reads.Learnt,
-  plain-below t,
-  plain.Post,
   start-range-reads.Asked,
   start-range-reads.Learnt,
   def-below t,
   def.Post,
   undone-reads.Asked,
   undone-reads.Learnt,
+  plain-below t,
+  plain.Post,
 ) (stmt-at t) stmt.Post
-stmt-same-length-7 t c = let c₁ = c .before .before .before .before .before .before in let c₂ = c₁ .before .before .before .before .before .before .before .before .before .before .before .before .before .before .before .before .before .before in (c₁ .plain2 .kept .1 .1 .0) ∙ (c₂ .def .kept .1 .1 .0)
+stmt-same-length-7 t c = let c₁ = c .before .before .before .before .before .before in let c₂ = c₁ .before .before .before .before .before in (c₁ .plain .kept .1 .1 .0 ∙ ⊎-elim (λ w. ap length (w .22) ∙ w .8 .kept .1 .1 .0) (λ w. ap length (w .3)) (c₂ .match .came))
 
 stmt-same-length-8 : (t : ℕ) → stmt-lts.Need-same-length-8 (
   check-reads.Asked,
   check-reads.Learnt,
-  plain-below t,
-  plain.Post,
   start-range-reads.Asked,
   start-range-reads.Learnt,
   def-below t,
   def.Post,
   undone-reads.Asked,
   undone-reads.Learnt,
+  plain-below t,
+  plain.Post,
 ) (stmt-at t) stmt.Post
-stmt-same-length-8 t c = let c₁ = c .before .before .before .before .before .before in let c₂ = c₁ .before .before .before .before .before .before .before .before .before .before .before .before .before .before .before .before .before .before in (c₁ .plain2 .kept .1 .1 .1 .0) ∙ (c₂ .def .kept .1 .1 .1 .0)
+stmt-same-length-8 t c = let c₁ = c .before .before .before .before .before .before in let c₂ = c₁ .before .before .before .before .before in (c₁ .plain .kept .1 .1 .1 .0 ∙ ⊎-elim (λ w. ap length (w .23) ∙ w .8 .kept .1 .1 .1 .0) (λ w. ap length (w .4)) (c₂ .match .came))
 
 stmt-same-length-9 : (t : ℕ) → stmt-lts.Need-same-length-9 (
   check-reads.Asked,
   check-reads.Learnt,
-  plain-below t,
-  plain.Post,
   start-range-reads.Asked,
   start-range-reads.Learnt,
   def-below t,
   def.Post,
   undone-reads.Asked,
   undone-reads.Learnt,
+  plain-below t,
+  plain.Post,
 ) (stmt-at t) stmt.Post
-stmt-same-length-9 t c = let c₁ = c .before .before .before .before .before .before in let c₂ = c₁ .before .before .before .before .before .before .before .before .before .before .before .before .before .before .before .before .before .before in (c₁ .plain2 .kept .1 .1 .1 .1 .0) ∙ (c₂ .def .kept .1 .1 .1 .1 .0)
+stmt-same-length-9 t c = let c₁ = c .before .before .before .before .before .before in let c₂ = c₁ .before .before .before .before .before in (c₁ .plain .kept .1 .1 .1 .1 .0 ∙ ⊎-elim (λ w. ap length (w .24) ∙ w .8 .kept .1 .1 .1 .1 .0) (λ w. ap length (w .5)) (c₂ .match .came))
 
 stmt-returns-4 : (t : ℕ) → stmt-lts.Need-returns-4 (
   check-reads.Asked,
   check-reads.Learnt,
-  plain-below t,
-  plain.Post,
   start-range-reads.Asked,
   start-range-reads.Learnt,
   def-below t,
   def.Post,
   undone-reads.Asked,
   undone-reads.Learnt,
-) (stmt-at t) stmt.Post
-stmt-returns-4 t c = let c₁ = c .before .before .before .before .before .before in let c₂ = c₁ .before .before .before .before .before .before in let c₃ = c₂ .before .before in let c₄ = c₃ .before .before in let c₅ = c₄ .before .before .before .before .before .before .before .before in let c₆ = c₅ .before .before .before .before .before in let c₇ = c₆ .before .before in let c₈ = c₇ .before .before in c₁ .plain2 .ensures ∙ sym (st.stmt-tried _ _ _ (via asTest (c₈ .check .ensures _ _ _ _ _) (c₇ .named .given .1)) ∙ attempts.undone _ _ _ _ _ (st.function-stmt-is _ _ _ (c₆ .start-range .ensures) ∙ (via asBuilt (c₅ .def .ensures) (c₄ .tried2 .given .1))) (via asMoved (c₃ .undone .ensures _) (c₂ .back .given .1)))
-
-stmt-same-length-10 : (t : ℕ) → stmt-lts.Need-same-length-10 (
-  check-reads.Asked,
-  check-reads.Learnt,
   plain-below t,
   plain.Post,
-  start-range-reads.Asked,
-  start-range-reads.Learnt,
-  def-below t,
-  def.Post,
-  undone-reads.Asked,
-  undone-reads.Learnt,
 ) (stmt-at t) stmt.Post
-stmt-same-length-10 t c = (c .before .before .before .before .before .before .before .before .before .before .before .before .before .def .kept .1 .1 .0)
-
-stmt-same-length-11 : (t : ℕ) → stmt-lts.Need-same-length-11 (
-  check-reads.Asked,
-  check-reads.Learnt,
-  plain-below t,
-  plain.Post,
-  start-range-reads.Asked,
-  start-range-reads.Learnt,
-  def-below t,
-  def.Post,
-  undone-reads.Asked,
-  undone-reads.Learnt,
-) (stmt-at t) stmt.Post
-stmt-same-length-11 t c = (c .before .before .before .before .before .before .before .before .before .before .before .before .before .def .kept .1 .1 .1 .0)
-
-stmt-same-length-12 : (t : ℕ) → stmt-lts.Need-same-length-12 (
-  check-reads.Asked,
-  check-reads.Learnt,
-  plain-below t,
-  plain.Post,
-  start-range-reads.Asked,
-  start-range-reads.Learnt,
-  def-below t,
-  def.Post,
-  undone-reads.Asked,
-  undone-reads.Learnt,
-) (stmt-at t) stmt.Post
-stmt-same-length-12 t c = (c .before .before .before .before .before .before .before .before .before .before .before .before .before .def .kept .1 .1 .1 .1 .0)
-
-stmt-returns-5 : (t : ℕ) → stmt-lts.Need-returns-5 (
-  check-reads.Asked,
-  check-reads.Learnt,
-  plain-below t,
-  plain.Post,
-  start-range-reads.Asked,
-  start-range-reads.Learnt,
-  def-below t,
-  def.Post,
-  undone-reads.Asked,
-  undone-reads.Learnt,
-) (stmt-at t) stmt.Post
-stmt-returns-5 t c = let c₁ = c .before in let c₂ = c₁ .before .before in let c₃ = c₂ .before .before in let c₄ = c₃ .before .before .before .before .before .before .before .before in let c₅ = c₄ .before .before .before .before .before in let c₆ = c₅ .before .before in let c₇ = c₆ .before .before in sym (st.stmt-tried _ _ _ (via asTest (c₇ .check .ensures _ _ _ _ _) (c₆ .named .given .1)) ∙ attempts.lost _ _ _ _ _ (st.function-stmt-is _ _ _ (c₅ .start-range .ensures) ∙ (via asBuilt (c₄ .def .ensures) (c₃ .tried2 .given .1))) (via asMoved (c₂ .undone .ensures _) (c₁ .back2 .given .1)))
+stmt-returns-4 t c = let c₁ = c .before .before .before .before .before .before in let c₂ = c₁ .before .before .before .before .before in let c₃ = c₂ .before in c₁ .plain .ensures ∙ sym (⊎-elim (λ w. st.met _ _ _ (st.stmt-tried _ _ _ (via asTest (c₃ .check .ensures _ _ _ _ _) (w .1 .given .1)) ∙ attempts.undone _ _ _ _ _ (st.function-stmt-is _ _ _ (w .3 .ensures) ∙ via asBuilt (w .8 .ensures) (w .16 .given .1)) (via asMoved (w .18 .ensures _) (w .20 .given .1))) (w .22) (w .23) (w .24) (w .25) (w .26)) (λ w. st.met _ _ _ (st.stmt-plain _ _ _ (via asTest (c₃ .check .ensures _ _ _ _ _) (w .1 .given .1))) (w .3) (w .4) (w .5) (w .6) (w .7)) (c₂ .match .came))
 
 table-expr-requires : (t : ℕ) → table-lts.Need-expr-requires (
   expr-below t,
@@ -21229,7 +21160,7 @@ pub +anon+arms+assign+atom+block+brace+call+case+catch+cond+def+each+expr+exprs+
     exprs-Inv-loop
     exprs-μ-loop
     (exprs-returns t)
-    (exprs-sub-t38 t)
+    (exprs-sub-t41 t)
     (exprs-eat-eol-requires t)
     (exprs-enum-known-begun t)
     (exprs-enum-known-begun-2 t)
@@ -22168,47 +22099,42 @@ pub +anon+arms+assign+atom+block+brace+call+case+catch+cond+def+each+expr+exprs+
     (λ t. stmt-lts.spec (
       check-reads.Asked,
       check-reads.Learnt,
-      plain-below t,
-      plain.Post,
       start-range-reads.Asked,
       start-range-reads.Learnt,
       def-below t,
       def.Post,
       undone-reads.Asked,
       undone-reads.Learnt,
+      plain-below t,
+      plain.Post,
     )
     (stmt-at t)
     stmt.Post
     (stmt-check-requires t)
     (stmt-enum-known-named t)
-    (stmt-enum-known-named-2 t)
-    (stmt-plain-requires t)
+    (stmt-start-range-requires t)
+    (stmt-def-requires t)
+    (stmt-enum-known-tried t)
     (stmt-same-length t)
     (stmt-same-length-2 t)
     (stmt-same-length-3 t)
     (stmt-returns t)
-    (stmt-enum-known-named-3 t)
-    (stmt-returns-2 t)
-    (stmt-start-range-requires t)
-    (stmt-def-requires t)
-    (stmt-enum-known-tried t)
-    (stmt-same-length-4 t)
-    (stmt-same-length-5 t)
-    (stmt-same-length-6 t)
-    (stmt-returns-3 t)
     (stmt-enum-known-tried-2 t)
     (stmt-undone-requires t)
     (stmt-enum-known-back t)
-    (stmt-plain-requires-2 t)
     (stmt-enum-known-back-2 t)
+    (stmt-same-length-4 t)
+    (stmt-same-length-5 t)
+    (stmt-same-length-6 t)
+    (stmt-returns-2 t)
+    (stmt-enum-known-named-2 t)
+    (stmt-enum-known-named-3 t)
+    (stmt-returns-3 t)
+    (stmt-plain-requires t)
     (stmt-same-length-7 t)
     (stmt-same-length-8 t)
     (stmt-same-length-9 t)
-    (stmt-returns-4 t)
-    (stmt-same-length-10 t)
-    (stmt-same-length-11 t)
-    (stmt-same-length-12 t)
-    (stmt-returns-5 t))
+    (stmt-returns-4 t))
     (λ t. table-lts.spec (
       expr-below t,
       expr.Post,

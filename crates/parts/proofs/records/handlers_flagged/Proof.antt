@@ -2,7 +2,6 @@
 use Rattle.parts.proofs.RecordPaths as paths
 use Rattle.parts.proofs.records.handlers_flagged.Statement.{statement}
 use Rattle.parts.proofs.records.handlers_flagged.Tie as tie
-use borrow.Author.Needs.{needs}
 use mathlib.Core.Path.{sym, _∙_}
 
 returns : tie.Need-returns
@@ -13,5 +12,5 @@ handlers-flagged-spec =
     tie.close (tie.spec
     (λ c κs. tt)
     (λ c κs. tt)
-    (λ c. search needs)
+    (λ c. (c .before .before .reflag .kept .0))
     returns)

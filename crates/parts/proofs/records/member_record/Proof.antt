@@ -4,8 +4,7 @@ use Rattle.cursor.specs.Answers.{asBuilt}
 use Rattle.cursor.proofs.CheckPaths.{via}
 use Rattle.parts.proofs.records.member_record.Statement.{statement}
 use Rattle.parts.proofs.records.member_record.Tie as tie
-use borrow.Author.Needs.{needs}
-use mathlib.Core.Path.{sym}
+use mathlib.Core.Path.{sym, _∙_}
 
 returns : tie.Need-returns
 returns c = let c₁ = c .before .before in let c₂ = c₁ .before .before .before .before in let c₃ = c₂ .before .before in let c₄ = c₃ .before in let c₅ = c₄ .before in let c₆ = c₅ .before in let c₇ = c₆ .before .before .before in let c₈ = c₇ .before .before .before .before in let c₉ = c₈ .before in λ e y l. sym (paths.member-on _ _ _ _ _ _ _ (c₉ .link-of .ensures) (c₈ .add .ensures _ _ _ _) (c₇ .add-some .ensures _ _ _ _) (c₆ .span-of .ensures) (c₅ .member-form .ensures) (c₄ .is-ended .ensures) (c₃ .flagged .ensures) (via asBuilt (c₂ .close .ensures _ _ _) (c₁ .built .given .1)) (c .member-of .ensures))
@@ -27,7 +26,7 @@ member-record-spec =
     (λ c. c .match .keys1)
     (λ c κs. tt)
     (λ c. c .match .keys2)
-    (λ c. search needs)
+    (λ c. let c₁ = c .before .before .before .before .before .before in let c₂ = c₁ .before .before .before .before .before .before .before .before in let c₃ = c₂ .before .before .before .before in (c₁ .close .kept .0) ∙ (c₂ .add-some .kept .0) ∙ (c₃ .add .kept .0))
     returns
-    (λ c. search needs)
+    (λ c. let c₁ = c .before .before .before .before .before in let c₂ = c₁ .before .before .before .before .before .before .before .before in let c₃ = c₂ .before .before .before .before in (c₁ .close .kept .0) ∙ (c₂ .add-some .kept .0) ∙ (c₃ .add .kept .0))
     returns-2)

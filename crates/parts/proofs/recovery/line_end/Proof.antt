@@ -10,10 +10,10 @@ returns : tie.Need-returns
 returns c = λ y n. sym (paths.line-there _ _ _ (via asMoved (c .before .before .before .expect .ensures _ _ _ _) (c .before .ended .given .1)))
 
 returns-2 : tie.Need-returns-2
-returns-2 c = let c₁ = c .before .before .before .before in let c₂ = c₁ .before .before .before .before in let c₃ = c₂ .before .before in let c₄ = c₃ .before .before .before in let c₅ = c₄ .before .before in λ y n. sym (paths.line-missing _ _ _ _ (paths.stopped _ (via asMoved (c₅ .expect .ensures _ _ _ _) (c₄ .ended2 .given .1)) (c₃ .failed .given .1)) (c₂ .give-back .ensures) (c₁ .log-error .ensures _))
+returns-2 c = let c₁ = c .before .before .before in let c₂ = c₁ .before .before in λ y n. sym (paths.line-refused _ _ _ (c₁ .ended2 .given .0 .0) _ (via asMoved (c₂ .expect .ensures _ _ _ _) (c₁ .ended2 .given .1)) (c .if1 .taken))
 
 returns-3 : tie.Need-returns-3
-returns-3 c = let c₁ = c .before in let c₂ = c₁ .before .before .before in let c₃ = c₂ .before .before in λ y n. sym (paths.line-refused _ _ _ (paths.stopped _ (via asMoved (c₃ .expect .ensures _ _ _ _) (c₂ .ended2 .given .1)) (c₁ .failed2 .given .1)))
+returns-3 c = let c₁ = c .before .before .before .before in let c₂ = c₁ .before .before .before .before in let c₃ = c₂ .before in let c₄ = c₃ .before .before .before in let c₅ = c₄ .before .before in λ y n. sym (paths.line-missing _ _ _ _ (paths.stopped _ (via asMoved (c₅ .expect .ensures _ _ _ _) (c₄ .ended2 .given .1)) (c₃ .if1 .left)) (c₂ .give-back .ensures) (c₁ .log-error .ensures _))
 
 pub line-end-spec : {M : Type 1} → statement M
 line-end-spec =
@@ -22,11 +22,9 @@ line-end-spec =
     (λ c. c .match .keys1)
     returns
     (λ c. c .match .keys2)
-    (λ c. c .match2 .keys1)
+    returns-2
     (λ c κs. tt)
     (λ c κs. tt)
-    (λ c. c .match2 .keys2)
     (λ c. (c .before .before .before .before .log-error .kept .0))
     (λ c. (c .before .before .before .before .log-error .kept .1 .0))
-    returns-2
     returns-3)

@@ -5,16 +5,14 @@ use Rattle.parts.proofs.recovery.undone.Tie as tie
 use mathlib.Core.Path.{sym}
 
 returns : tie.Need-returns
-returns c = λ w. sym (paths.undo-fault _ _ (c .before .before .lost .given .1) (c .rewind .ensures))
+returns c = λ w. sym (paths.undo-refused _ _ (c .before .before .args .lost) (c .if1 .taken))
 
 returns-2 : tie.Need-returns-2
-returns-2 c = λ w. sym (paths.undo-refused _ _ (c .before .lost2 .given .1))
+returns-2 c = λ w. sym (paths.undo-fault _ _ (c .before .before .before .args .lost) (c .before .if1 .left) (c .rewind .ensures))
 
 pub undone-spec : {M : Type 1} → statement M
 undone-spec =
     tie.close (tie.spec
-    (λ c. c .match .keys1)
-    (λ c κs. tt)
-    (λ c. c .match .keys2)
     returns
+    (λ c κs. tt)
     returns-2)

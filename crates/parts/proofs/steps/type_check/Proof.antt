@@ -44,7 +44,7 @@ type-check-spec =
     (λ c κs. tt)
     (λ c. c .match4 .keys1)
     (λ c. c .match4 .keys2)
-    (λ c. search needs)
+    (λ c. (c .before .before .before .before .before .close .kept .0))
     returns-4
-    (λ c. search needs)
+    (λ c. (c .before .before .before .before .before .close .kept .0))
     returns-5)
