@@ -1,18 +1,13 @@
 // The parser: `parse`, the function that a till calls, and the same for C.
 ghost use mathlib.Core.Path.{_≡_};
 ghost use mathlib.Core.List.{List};
-ghost use mathlib.Core.Logic.{_↔_};
 ghost use Prim.Native.Nat.{ℕ};
 ghost use Rattle.cursor.specs.Rule.{world, failed};
 ghost use Rattle.cursor.specs.Answers.{asStop};
 ghost use Rattle.parser.specs.Blank.{upTo};
 ghost use Rattle.parser.specs.Outcome.{told, apart, handed, handing};
 ghost use Rattle.parser.specs.Finish.{Numbered, trimmed, finished};
-ghost use Rattle.grammar.specs.Places.{tokensOf};
-ghost use Rattle.grammar.specs.Follows.{Follows, treeOf};
-ghost use Rattle.grammar.specs.Words.{tokenWords, words};
-ghost use Rattle.marks.specs.Marks.{marks, readings};
-ghost use Rattle.parser.specs.Demands.{Clean, treeIn, Roomy, Weighed};
+ghost use Rattle.parser.specs.Demands.{Demands};
 ghost use Rattle.parser.specs.Parse.{parse};
 use clear::clear_bytes;
 use clear::clear_words;
@@ -96,7 +91,7 @@ fn refuse(nodes: &mut [u32], errors: &mut [u32], expected: &mut [u8], failure: F
 }
 
 // Reads a sheet: text, tokens (kind, start, end, three words each) and the allowance of readings, into the buffers of node records, error
-// records and expected kinds.
+// records and expected kinds. The equation says all of the answer and the buffers; demands 2 and 3 follow from it.
 pub fn parse(
     text: &[u8],
     tokens: &[u32],
@@ -105,7 +100,7 @@ pub fn parse(
     errors: &mut [u32],
     expected: &mut [u8],
 ) -> Answer
-    ensures { λ r. ⌜ (told r (now (nodes .exit)) (now (errors .exit)) (now (expected .exit)) ≡ parse (now (text .entry)) (now (tokens .entry)) allowance (now (nodes .entry)) (now (errors .entry)) (now (expected .entry))) × (((told r (now (nodes .exit)) (now (errors .exit)) (now (expected .exit))) .number ≡ 0 → ((told r (now (nodes .exit)) (now (errors .exit)) (now (expected .exit))) .errors ≡ 0) ↔ Follows (now (text .entry)) (now (tokens .entry))) × ((Clean (told r (now (nodes .exit)) (now (errors .exit)) (now (expected .exit))) → (f : Follows (now (text .entry)) (now (tokens .entry))) → treeIn (told r (now (nodes .exit)) (now (errors .exit)) (now (expected .exit))) ≡ treeOf f) × ((Clean (told r (now (nodes .exit)) (now (errors .exit)) (now (expected .exit))) → words (treeIn (told r (now (nodes .exit)) (now (errors .exit)) (now (expected .exit)))) ≡ tokenWords (tokensOf (now (tokens .entry)))) × ((Clean (told r (now (nodes .exit)) (now (errors .exit)) (now (expected .exit))) → (f : Follows (now (text .entry)) (now (tokens .entry))) → (told r (now (nodes .exit)) (now (errors .exit)) (now (expected .exit))) .reads ≡ readings (marks (f .body))) × ((f : Follows (now (text .entry)) (now (tokens .entry))) → Roomy f (now (nodes .entry)) → Weighed allowance (readings (marks (f .body))) ((told r (now (nodes .exit)) (now (errors .exit)) (now (expected .exit))) .number)))))) ⌝ }
+    ensures { λ r. ⌜ (told r (now (nodes .exit)) (now (errors .exit)) (now (expected .exit)) ≡ parse (now (text .entry)) (now (tokens .entry)) allowance (now (nodes .entry)) (now (errors .entry)) (now (expected .entry))) × Demands (now (text .entry)) (now (tokens .entry)) allowance (now (nodes .entry)) (told r (now (nodes .exit)) (now (errors .exit)) (now (expected .exit))) ⌝ }
 {
     let fit = entry_check(text, tokens);
     match fit {
