@@ -1,6 +1,6 @@
 -- What is read off the derivations of Examples: that each tree is the one which the table of known outcomes has for the sheet
--- (crates/known/specs/Known.antt; that crate is over the parser, so its trees are written out again here), the words, the records and the depth.
-use Prim.Native.Nat.{ℕ, suc}
+-- (crates/known/specs/Known.antt; that crate is over the parser, so its trees are written out again here), the words and the depth.
+use Prim.Native.Nat.{ℕ}
 use mathlib.Core.Path.{_≡_, refl}
 use mathlib.Core.List.{List, [], _∷_}
 use Rattle.kinds.specs.Number as kind
@@ -9,14 +9,13 @@ use Rattle.ints.specs.Spelling.{kept, radixBy, radixOf, afterPrefix, signBy, di
 use Rattle.ints.specs.Answer.{judged, firstOf, numberOf, afterwards, fromStrRadix, intOf}
 use Rattle.cursor.specs.declared.Label.{Label}
 use Rattle.cursor.specs.Node as record-of
-use Rattle.cursor.specs.Tree.{Trees, none, node, tree, join, size}
+use Rattle.cursor.specs.Tree.{Trees, none, node, tree, join}
 use Rattle.types.specs.Lits.{literal, intLiteral}
 use Rattle.grammar.specs.Places.{kindOf, spanOf, after, tokensOf, significant, before, opening}
 use Rattle.grammar.specs.Shape.{shape}
 use Rattle.grammar.specs.Follows.{treeOf}
 use Rattle.grammar.specs.Words.{among, range, tokenWords, ownWord, words}
 use Rattle.grammar.specs.Words as word
-use Rattle.grammar.specs.Records.{records}
 use Rattle.grammar.specs.Depth.{need}
 use Rattle.grammar.proofs.Examples.{alone, product-tokens, product, empty-table, number-block, nothing, braced, nested, group-table, nameless}
 
@@ -64,19 +63,7 @@ product-token-words : tokenWords (tokensOf product-tokens) ≡ range 0 1 ∷ ran
 unfolding tokenWords tokensOf among
 product-token-words = refl
 
--- one record for the program and those of its statements are the records of the tree; the innermost name stands seven levels below the statements
-product-records : suc (records (product .body)) ≡ size (treeOf product)
-unfolding product alone records shape treeOf join size
-product-records = refl
-
-nested-records : (text : List ℕ) → suc (records (nested text .body)) ≡ size (treeOf (nested text))
-unfolding nested braced alone records shape treeOf join size
-nested-records text = refl
-
+-- the innermost name stands seven levels below the statements
 nested-levels : (text : List ℕ) → need (nested text .body) ≡ 7
 unfolding nested braced alone need
 nested-levels text = refl
-
-nameless-records : (text : List ℕ) → suc (records (nameless text .body)) ≡ size (treeOf (nameless text))
-unfolding nameless alone records shape treeOf join size
-nameless-records text = refl

@@ -17,7 +17,7 @@ use Rattle.grammar.proofs.Tests.{at-token, elsewhere, colon-level}
 use Rattle.grammar.proofs.FirstKinds.{lits, apart}
 use Rattle.grammar.proofs.Starts.{starts}
 use Rattle.grammar.proofs.Cost.{taken, Costs, costs, cost, lead, one-taken, one-spent}
-use Rattle.grammar.specs.Records.{records}
+use Rattle.grammar.proofs.Records.{records}
 use Rattle.grammar.specs.Depth.{need}
 
 -- every form but that of a plain name

@@ -58,6 +58,7 @@ pub mod UnambiguousTables
 pub mod UnambiguousSymbols
 pub mod Unambiguous
 pub mod Cost
+pub mod Records
 pub mod Meets
 pub mod MeetsBinds
 pub mod MeetsFails
@@ -79,6 +80,7 @@ pub mod WordsOfSymbols
 pub mod WordsOfCalls
 pub mod WordsOfParts
 pub mod WordsOfAll
+pub mod SizeOf
 pub mod Leading
 pub mod MeetsTables
 pub mod MeetsAssign

@@ -17,7 +17,7 @@ use Rattle.grammar.specs.Places.{Place}
 use Rattle.grammar.specs.Symbols.{Sym}
 use Rattle.grammar.specs.Derives.{Derives}
 use Rattle.grammar.proofs.Cost.{cost}
-use Rattle.grammar.specs.Records.{records}
+use Rattle.grammar.proofs.Records.{records}
 use Rattle.grammar.specs.Depth.{entered, need}
 use Rattle.grammar.proofs.Links.{placeAt, Settled}
 

@@ -30,7 +30,7 @@ use Rattle.grammar.proofs.Tests.{at-token}
 use Rattle.grammar.proofs.SoundExprs.{formOf}
 use Rattle.grammar.proofs.FewLefts.{lefts-few, view-short}
 use Rattle.grammar.proofs.Cost.{taken, costs, cost}
-use Rattle.grammar.specs.Records.{records}
+use Rattle.grammar.proofs.Records.{records}
 use Rattle.grammar.specs.Depth.{need}
 use Rattle.grammar.proofs.Meets.{Cost, _⊕_, nothing, inside, costOf, Any, Goes, goes, stops, Meets}
 use Rattle.grammar.proofs.MeetsBinds.{gives, answers, answers-stop, yes-so, not-so, fits, maps, next, turn-more, turn-stop}

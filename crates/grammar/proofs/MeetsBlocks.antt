@@ -21,7 +21,7 @@ use Rattle.grammar.proofs.FirstKinds.{opening-apart}
 use Rattle.grammar.proofs.Starts.{starts}
 use Rattle.grammar.proofs.SoundExprs.{formOf}
 use Rattle.grammar.proofs.Cost.{costs}
-use Rattle.grammar.specs.Records.{records}
+use Rattle.grammar.proofs.Records.{records}
 use Rattle.grammar.specs.Depth.{need}
 use Rattle.grammar.proofs.Meets.{_⊕_, inside, costOf, Any, Meets}
 use Rattle.grammar.proofs.MeetsBinds.{answers, fits, any, next}

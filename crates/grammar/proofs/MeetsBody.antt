@@ -22,7 +22,7 @@ use Rattle.grammar.proofs.Tests.{at-token, elsewhere}
 use Rattle.grammar.proofs.FirstKinds.{stmts, apart}
 use Rattle.grammar.proofs.Starts.{starts}
 use Rattle.grammar.proofs.Cost.{taken, costs}
-use Rattle.grammar.specs.Records.{records}
+use Rattle.grammar.proofs.Records.{records}
 use Rattle.grammar.specs.Depth.{need}
 use Rattle.grammar.proofs.Meets.{reading, costOf, Any, Meets}
 use Rattle.grammar.proofs.MeetsBinds.{answers, answers-more, answers-stop, fits, next, kept-recover, turn-more, turn-stop}

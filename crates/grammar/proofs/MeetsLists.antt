@@ -18,7 +18,7 @@ use Rattle.grammar.specs.Symbols.{Sym, Eols, Until, Items}
 use Rattle.grammar.specs.Derives.{Derives, until-of, items-end, items-last, items-final, items-comma}
 use Rattle.grammar.proofs.Tests.{elsewhere, at-token}
 use Rattle.grammar.proofs.Cost.{taken, costs, cost}
-use Rattle.grammar.specs.Records.{records}
+use Rattle.grammar.proofs.Records.{records}
 use Rattle.grammar.specs.Depth.{need}
 use Rattle.grammar.proofs.Meets.{_⊕_, reading, costOf, itemCost, Any, Goes, Stops, Meets, Reads}
 use Rattle.grammar.proofs.MeetsBinds.{answers, answers-more, answers-stop, yes-so, fits, next, turn-more, turn-stop}

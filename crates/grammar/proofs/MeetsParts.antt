@@ -2,7 +2,7 @@
 use mathlib.Core.Path.{refl}
 use mathlib.Core.List.{List}
 use mathlib.Core.Bool.{Bool, true, false}
-use Prim.Native.Nat.{ℕ, _≤_}
+use Prim.Native.Nat.{ℕ, _-_, _≤_}
 use native.Mathlib.Omega.{arith}
 use Rattle.kinds.specs.Number as kind
 use Rattle.cursor.specs.declared.Kids.{Kids}
@@ -22,8 +22,8 @@ use Rattle.grammar.specs.Symbols.{Until, Items, NoLast, Effect, Path, Im
 use Rattle.grammar.specs.Derives.{Derives, until-of, items-end, items-last, items-final, items-comma, effect-of, path-more, path-alone, path-as, path-items, path-all, item-alone, item-as}
 use Rattle.grammar.proofs.Tests.{elsewhere, at-token}
 use Rattle.grammar.proofs.Starts.{starts}
-use Rattle.grammar.proofs.Cost.{taken, costs}
-use Rattle.grammar.specs.Records.{records}
+use Rattle.grammar.proofs.Cost.{taken, cost, costs}
+use Rattle.grammar.proofs.Records.{records}
 use Rattle.grammar.specs.Depth.{need}
 use Rattle.grammar.proofs.Meets.{_⊕_, reading, building, costOf, flatCost, Any, Meets, Reads}
 use Rattle.grammar.proofs.MeetsBinds.{answers-more, answers-stop, fits, next, turn-more, turn-stop}
@@ -49,6 +49,15 @@ until-level : {text : List ℕ} {end : ℕ} {p q : Place} (D : Derives text (Unt
 unfolding need
 until-level (until-of E D) = items-level D
 
+-- a path has the Import's record
+path-some : {text : List ℕ} {p q : Place} (D : Derives text Path p q) → 1 ≤ records D
+unfolding records
+path-some (path-more D t E) = omega (arith, path-some E)
+path-some (path-alone D h) = omega arith
+path-some (path-as D t E) = omega arith
+path-some (path-items D t b E) = omega arith
+path-some (path-all D t b) = omega arith
+
 module _ {e : Sheet} {d : ℕ} where
   item-reads : Reads e d ImportItem (importItem e)
   unfolding importItem costs records need
@@ -62,10 +71,10 @@ module _ {e : Sheet} {d : ℕ} where
   unfolding importItems
   items-of D kids = fits refl refl (until-level D) (until-meets kind.CloseBrace (importItem e) refl item-reads (until-takes e (importItem e) kind.CloseBrace (import-items-keep e)) (record { no-end = λ D. elsewhere kind.CloseBrace refl (starts D); none = λ D. starts D }) D kids)
 
-  -- a path, name by name
-  path-meets : {p q : Place} (D : Derives (e .text) Path p q) (i : Imported) → Meets e d p q (flatCost D) Any (iterate e (pathTurn e) i)
+  -- a path, name by name. The Import's own record, which is one of its derivation's, is built behind it
+  path-meets : {p q : Place} (D : Derives (e .text) Path p q) (i : Imported) → Meets e d p q (record { reads = cost D; nodes = records D - 1; need = 0 }) Any (iterate e (pathTurn e) i)
   unfolding pathTurn importEnd importTail costs records
-  path-meets (path-more D t E) i = fits (omega arith) (omega arith) (omega arith) (turn-more (path-takes e) (next (ident-meets D) (λ name _. adds _ _ (λ longer. eats _ t (here _ (starts E) answers-more)))) (λ j _. path-meets E j))
+  path-meets (path-more D t E) i = fits (omega arith) (omega (arith, path-some E)) (omega arith) (turn-more (path-takes e) (next (ident-meets D) (λ name _. adds _ _ (λ longer. eats _ t (here _ (starts E) answers-more)))) (λ j _. path-meets E j))
   path-meets (path-alone D h) i = turn-stop _ _ (fits (omega arith) (omega arith) (omega arith) (next (ident-meets D) (λ name _. adds _ _ (λ longer. eats-not _ (elsewhere kind.DoubleColon refl h) (picks _ endChain (h .stands) answers-stop)))))
   path-meets (path-as D t E) i = turn-stop _ _ (fits (omega arith) (omega arith) (omega arith) (next (ident-meets D) (λ name _. adds _ _ (λ longer. eats-not _ (elsewhere kind.DoubleColon refl (at-token t))
       (picks _ endChain (t .here) (bumps (t .next) (next (ident-meets E) (λ alias _. adds _ _ (λ all. answers-stop)))))))))
@@ -75,9 +84,9 @@ module _ {e : Sheet} {d : ℕ} where
       (picks _ tailChain (b .here) (bumps (b .next) answers-stop)))))))
 
   -- the statement from its keyword on
-  pub import-meets : {p q r : Place} → Tok kind.Import p q → (D : Derives (e .text) Path q r) (from : ℕ) → Meets e d p r (reading (taken p) ⊕ (flatCost D ⊕ building)) Any (importStmt e from)
+  pub import-meets : {p q r : Place} → Tok kind.Import p q → (D : Derives (e .text) Path q r) (from : ℕ) → Meets e d p r (reading (taken p) ⊕ flatCost D) Any (importStmt e from)
   unfolding importStmt
-  import-meets t D from = bumps (t .next) (next (path-meets D _) (λ i _. close-meets _ _ _ _ _ _))
+  import-meets t D from = fits (omega arith) (omega (arith, path-some D)) (omega arith) (bumps (t .next) (next (path-meets D _) (λ i _. close-meets _ _ _ _ _ _)))
 
   -- parameters of a function or of a closure
   pub any-params-meet : {p q : Place} (closure : Bool) (D : Derives (e .text) (Params closure) p q) → Meets e d p q (costOf D) Any (anyParams e (atoms e d) closure)

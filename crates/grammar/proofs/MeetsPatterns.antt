@@ -20,7 +20,7 @@ use Rattle.grammar.specs.Words.{among}
 use Rattle.grammar.proofs.FirstKinds.{apart}
 use Rattle.grammar.proofs.Starts.{starts}
 use Rattle.grammar.proofs.Cost.{taken, costs}
-use Rattle.grammar.specs.Records.{records}
+use Rattle.grammar.proofs.Records.{records}
 use Rattle.grammar.specs.Depth.{need}
 use Rattle.grammar.proofs.Meets.{Cost, _⊕_, reading, costOf, flatCost, Any, Goes, Stops, Meets, Reads}
 use Rattle.grammar.proofs.MeetsBinds.{answers, answers-more, answers-stop, refuses, fits, deeper, next, turn-more, turn-stop}

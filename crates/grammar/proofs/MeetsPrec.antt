@@ -29,7 +29,7 @@ use Rattle.grammar.proofs.Links.{placeAt, Settled, kind-place}
 use Rattle.grammar.proofs.SoundSteps.{range-place}
 use Rattle.grammar.proofs.SoundExprs.{formOf}
 use Rattle.grammar.proofs.Cost.{taken, costs}
-use Rattle.grammar.specs.Records.{records}
+use Rattle.grammar.proofs.Records.{records}
 use Rattle.grammar.specs.Depth.{need}
 use Rattle.grammar.proofs.Meets.{Cost, _⊕_, nothing, reading, building, inside, costOf, Goes, goes, Stops, stops, EndsAt, Meets}
 use Rattle.grammar.proofs.MeetsBinds.{gives, yes-so, not-so, fits, next, turn-more, turn-stop}

@@ -30,7 +30,7 @@ use Rattle.grammar.proofs.FirstKinds.{apart, opening-apart}
 use Rattle.grammar.proofs.Starts.{starts}
 use Rattle.grammar.proofs.SoundExprs.{formOf}
 use Rattle.grammar.proofs.Cost.{costs, cost}
-use Rattle.grammar.specs.Records.{records}
+use Rattle.grammar.proofs.Records.{records}
 use Rattle.grammar.specs.Depth.{need}
 use Rattle.grammar.proofs.Meets.{_⊕_, nothing, building, costOf, Goes, goes, stops, Meets}
 use Rattle.grammar.proofs.MeetsBinds.{gives, answers, yes-so, not-so, fits, maps, next, turn-more, turn-stop}

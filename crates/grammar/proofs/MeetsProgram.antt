@@ -16,7 +16,7 @@ use Rattle.grammar.specs.Follows.{Follows}
 use Rattle.grammar.proofs.Links.{calm-settle, placeAt}
 use Rattle.grammar.proofs.Outset.{outset, settled-at, program-is, first-place}
 use Rattle.grammar.proofs.Cost.{cost}
-use Rattle.grammar.specs.Records.{records}
+use Rattle.grammar.proofs.Records.{records}
 use Rattle.grammar.specs.Depth.{need}
 use Rattle.grammar.proofs.Meets.{Cost, building, Any, Lacks, few-nodes, few-levels, few-reads, full, EndsAt, arrives, short, Meets}
 use Rattle.grammar.proofs.MeetsBinds.{fits, next}

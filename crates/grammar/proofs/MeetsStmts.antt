@@ -25,7 +25,7 @@ use Rattle.grammar.proofs.Tests.{at-token, elsewhere}
 use Rattle.grammar.proofs.Links.{placeAt, Settled}
 use Rattle.grammar.proofs.Starts.{starts}
 use Rattle.grammar.proofs.Cost.{taken, costs, cost, one-spent}
-use Rattle.grammar.specs.Records.{records}
+use Rattle.grammar.proofs.Records.{records}
 use Rattle.grammar.specs.Depth.{need}
 use Rattle.grammar.proofs.Leading.{Fns, no-fn, a-fn, prec-fns}
 use Rattle.grammar.proofs.Meets.{Cost, _⊕_, nothing, reading, costOf, Any, Meets, FailsAt, Fails}

@@ -29,7 +29,7 @@ use Rattle.grammar.proofs.Links.{placeAt, Settled, kind-place}
 use Rattle.grammar.proofs.FirstKinds.{lits, apart}
 use Rattle.grammar.proofs.Starts.{literal-first, starts}
 use Rattle.grammar.proofs.Cost.{taken, costs, cost}
-use Rattle.grammar.specs.Records.{records}
+use Rattle.grammar.proofs.Records.{records}
 use Rattle.grammar.specs.Depth.{need}
 use Rattle.grammar.proofs.Leading.{Leads, no-key, a-group, a-literal, body-leads}
 use Rattle.grammar.proofs.Meets.{Cost, _⊕_, nothing, reading, building, inside, costOf, flatCost, Any, FailsAt, faulty, Fails, Meets}

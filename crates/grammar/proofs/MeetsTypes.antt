@@ -20,7 +20,7 @@ use Rattle.grammar.proofs.Tests.{elsewhere}
 use Rattle.grammar.proofs.FirstKinds.{apart}
 use Rattle.grammar.proofs.Starts.{starts}
 use Rattle.grammar.proofs.Cost.{costs}
-use Rattle.grammar.specs.Records.{records}
+use Rattle.grammar.proofs.Records.{records}
 use Rattle.grammar.specs.Depth.{need}
 use Rattle.grammar.proofs.Meets.{costOf, Any, Meets, Reads}
 use Rattle.grammar.proofs.MeetsBinds.{answers, answers-more, answers-stop, refuses, fits, deeper, next, turn-more, turn-stop}

@@ -22,7 +22,7 @@ use Rattle.grammar.proofs.FirstKinds.{Opens, atoms, opening-apart}
 use Rattle.grammar.proofs.Starts.{starts}
 use Rattle.grammar.proofs.SoundExprs.{formOf}
 use Rattle.grammar.proofs.Cost.{taken, costs}
-use Rattle.grammar.specs.Records.{records}
+use Rattle.grammar.proofs.Records.{records}
 use Rattle.grammar.specs.Depth.{need}
 use Rattle.grammar.proofs.Meets.{_⊕_, reading, building, costOf, Any, Meets}
 use Rattle.grammar.proofs.MeetsBinds.{gives, answers-more, answers-stop, fits, next, turn-more, turn-stop}

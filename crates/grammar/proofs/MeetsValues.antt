@@ -25,7 +25,7 @@ use Rattle.grammar.proofs.SoundSteps.{range-place}
 use Rattle.grammar.proofs.FirstKinds.{lits, apart}
 use Rattle.grammar.proofs.Starts.{starts}
 use Rattle.grammar.proofs.Cost.{taken, costs}
-use Rattle.grammar.specs.Records.{records}
+use Rattle.grammar.proofs.Records.{records}
 use Rattle.grammar.proofs.Meets.{Cost, _⊕_, nothing, reading, building, flatCost, Any, arrives, Meets, stays}
 use Rattle.grammar.proofs.MeetsBinds.{answers, fits, any}
 use Rattle.grammar.proofs.MeetsSteps.{after-none, bumps, expects, adds, append-meets, add-meets}

@@ -1,4 +1,4 @@
--- What a symbol's words are counted from, and what has to be known of a symbol that has other symbols or a kind in it.
+-- What a symbol's words and records are counted from, and what has to be known of a symbol that has other symbols or a kind in it.
 use mathlib.Core.Path.{_≡_, refl}
 use Rattle.cursor.specs.Tree.{Trees, none}
 use Rattle.grammar.specs.Places.{Place}
@@ -7,7 +7,7 @@ use Rattle.grammar.specs.Symbols as symbol
 use Rattle.grammar.proofs.WordsOfTokens.{NoWord}
 use Rattle.grammar.proofs.WordsOf.{Adds}
 
--- a symbol that goes on from what stands already has that row's words too; one that becomes a value by itself begins anew
+-- a symbol that goes on from what stands already has that row's too; one that becomes a value by itself begins anew
 abbrev pub from : Sym → Trees → Trees
 from symbol.Eols t = t
 from (symbol.Until x y end) t = t
@@ -56,7 +56,7 @@ from symbol.Case t = none
 from symbol.Patterns t = t
 
 -- from nothing each begins anew
-from-none : (y : Sym) → from y none ≡ none
+pub from-none : (y : Sym) → from y none ≡ none
 from-none symbol.Eols = refl
 from-none (symbol.Until x y end) = refl
 from-none (symbol.Items x y end) = refl

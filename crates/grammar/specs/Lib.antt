@@ -5,5 +5,4 @@ pub mod Builders
 pub mod Shape
 pub mod Follows
 pub mod Words
-pub mod Records
 pub mod Depth

@@ -9,11 +9,12 @@ use Rattle.cursor.specs.declared.Failure.{Failure}
 use Rattle.cursor.specs.Layout.{nodeWords, nodeLimit}
 use Rattle.cursor.specs.Rule.{world, refused, Out, done, failed}
 use Rattle.cursor.specs.Checks.{liveRoom}
+use Rattle.cursor.specs.Tree.{size}
 use Rattle.entry.specs.declared.Entry.the-variants as entries
-use Rattle.grammar.specs.Follows.{Follows}
-use Rattle.grammar.specs.Records.{records}
+use Rattle.grammar.specs.Follows.{Follows, treeOf}
 use Rattle.grammar.specs.Depth.{need}
 use Rattle.grammar.proofs.Cost.{cost}
+use Rattle.grammar.proofs.SizeOf.{size-all}
 use Rattle.grammar.proofs.Meets.{few-nodes, few-levels, few-reads, full}
 use Rattle.grammar.proofs.MeetsProgram.{Finds, finds, lacks, program-meets}
 use Rattle.marks.specs.Marks.{marks, readings}
@@ -32,11 +33,11 @@ enough : {allowance sum : ℕ} → sum ≤ allowance → Weighed allowance sum 0
 enough h = record { spent = ((λ q. absurd (omega (arith, q))), (λ g. absurd (omega (arith, h, g)))); covered = ((λ _. h), (λ _. refl)) }
 
 module _ (text tokens : List ℕ) (allowance : ℕ) (f : Follows text tokens) where
-  by-end : (n e x : List ℕ) (o : Out ℕ) → ((z : Failure) → o ≡ failed (refused z) → z .number ≡ 11 → ⊥) → suc (records (f .body)) ≤ min (length n / nodeWords) nodeLimit → suc (need (f .body)) ≤ depth
+  by-end : (n e x : List ℕ) (o : Out ℕ) → ((z : Failure) → o ≡ failed (refused z) → z .number ≡ 11 → ⊥) → size (treeOf f) ≤ min (length n / nodeWords) nodeLimit → suc (need (f .body)) ≤ depth
       → Finds (lent text tokens allowance) depth f (world n e x (replicate liveRoom 0)) o → Weighed allowance (cost (f .body)) (finished n e x o .number)
   unfolding finished
   by-end n e x (done s w link) never room deep (finds a b c d g h) = enough h
-  by-end n e x (failed (refused k)) never room deep (lacks (few-nodes h)) = absurd (omega (arith, h, room))
+  by-end n e x (failed (refused k)) never room deep (lacks (few-nodes h)) = absurd (omega (arith, h, room, size-all f))
   by-end n e x (failed (refused k)) never room deep (lacks (few-levels h)) = absurd (omega (arith, h, deep))
   by-end n e x (failed (refused k)) never room deep (lacks (few-reads h)) = let g : allowance < cost (f .body) = omega (arith, h) in too-much g
   by-end n e x (failed (refused k)) never room deep (lacks full) = absurd (never _ refl refl)
@@ -44,7 +45,7 @@ module _ (text tokens : List ℕ) (allowance : ℕ) (f : Follows text tokens) wh
   module _ (n e x : List ℕ) where
     by-entry : Roomy f n → Weighed allowance (cost (f .body)) (parse text tokens allowance n e x .number)
     unfolding parse reading
-    by-entry r = rw (r .fit, parse) (by-end (blank n) (blank e) (blank x) _ (λ z. program-bounded (lent text tokens allowance) _ begin z refl) (subst (λ k. suc (records (f .body)) ≤ min (k / nodeWords) nodeLimit) (sym (length-replicate {A = ℕ} (length n) 0)) (r .room)) (r .levels)
+    by-entry r = rw (r .fit, parse) (by-end (blank n) (blank e) (blank x) _ (λ z. program-bounded (lent text tokens allowance) _ begin z refl) (subst (λ k. size (treeOf f) ≤ min (k / nodeWords) nodeLimit) (sym (length-replicate {A = ℕ} (length n) 0)) (r .room)) (r .levels)
         (program-meets (lent text tokens allowance) (few text tokens allowance (r .fit)) depth _ f))
 
     pub afforded : Roomy f n → Weighed allowance (readings (marks (f .body))) (parse text tokens allowance n e x .number)

@@ -5,13 +5,12 @@ use mathlib.Core.Logic.{_↔_}
 use Prim.Native.Nat.{ℕ, suc, _-_, _/_, _<_, _≤_, min}
 use lib.ListN.{length}
 use Rattle.cursor.specs.Layout.{nodeWords, nodeLimit}
-use Rattle.cursor.specs.Tree.{Trees, meaning}
+use Rattle.cursor.specs.Tree.{Trees, size, meaning}
 use Rattle.entry.specs.declared.Entry.the-variants.{Fit}
 use Rattle.entry.specs.Check.{entryOf}
 use Rattle.grammar.specs.Places.{tokensOf}
 use Rattle.grammar.specs.Follows.{Follows, treeOf}
 use Rattle.grammar.specs.Words.{tokenWords, words}
-use Rattle.grammar.specs.Records.{records}
 use Rattle.grammar.specs.Depth.{need}
 use Rattle.marks.specs.Marks.{marks, readings}
 use Rattle.parser.specs.Outcome.{Outcome}
@@ -26,11 +25,11 @@ pub record Clean (o : Outcome) : Type 0 where
 abbrev pub treeIn : Outcome → Trees
 treeIn o = meaning (o .records) (o .nodes - 1)
 
--- a sheet that passes the entry check and follows the grammar, with room in the lent node buffer for its records, the program's too, and with depth for
--- its nesting, the program's statements being the first level; both numbers are read off the derivation
+-- a sheet that passes the entry check and follows the grammar, with room in the lent node buffer for the records of its tree, and with depth for its
+-- nesting, which is read off the derivation; the program's statements are the first level
 pub record Roomy {text tokens : List ℕ} (f : Follows text tokens) (n : List ℕ) : Type 0 where
   pub fit : entryOf text tokens ≡ Fit
-  pub room : suc (records (f .body)) ≤ min (length n / nodeWords) nodeLimit
+  pub room : size (treeOf f) ≤ min (length n / nodeWords) nodeLimit
   pub levels : suc (need (f .body)) ≤ depth
 
 -- a number that is 10 exactly if a sum of readings passes the allowance, and 0 otherwise

@@ -1,4 +1,5 @@
--- How many node records the tree of a derivation has: one for each value that has a range (docs/LAYOUT.md). The program's own record is not among them.
+-- How many node records a derivation adds to what stands already: one for each value that has a range (docs/LAYOUT.md). It is the size of what the derivation is
+-- built into (SizeOf.antt); the program's own record is not among them.
 use Prim.Native.Nat.{ℕ, _+_}
 use mathlib.Core.List.{List}
 use Rattle.grammar.specs.Places.{Place}
@@ -53,18 +54,18 @@ records (by.block-of a d) = records d + 1
 -- functions and effects
 records (by.function-of d e f) = records d + records e + records f + 1
 records (by.effect-of a d e f) = records d + records e + records f + 1
--- statements
+-- statements. An import's own record is that of its path's end, as in `shape`
 records (by.fn-stmt a d e) = records d + records e + 1
-records (by.import-stmt a d) = records d + 1
+records (by.import-stmt a d) = records d
 records (by.effect-stmt d) = records d + 1
 records (by.glo-fn a b d e) = records d + records e + 1
 records (by.glo-effect a d) = records d + 1
 records (by.glo-assign a d b e) = records d + records e + 1
 records (by.path-more d a e) = records d + records e
-records (by.path-alone d h) = records d
-records (by.path-as d a e) = records d + records e
-records (by.path-items d a b e) = records d + records e
-records (by.path-all d a b) = records d
+records (by.path-alone d h) = records d + 1
+records (by.path-as d a e) = records d + records e + 1
+records (by.path-items d a b e) = records d + records e + 1
+records (by.path-all d a b) = records d + 1
 records (by.item-alone d h) = records d + 1
 records (by.item-as d a e) = records d + records e + 1
 records (by.plain d h) = records d
