@@ -1,4 +1,5 @@
 pub mod CheckPaths
+pub mod ChainPaths
 pub mod Ends
 pub mod Loops
 pub mod RecordPaths

@@ -59,6 +59,7 @@ use Rattle.cursor.proofs.checks.eat.Reads as eat
 use Rattle.cursor.proofs.checks.unexpected.Reads as unexpected
 use Rattle.cursor.proofs.checks.expect.Reads as expect
 use Rattle.cursor.proofs.checks.eat_range.Reads as eat-range
+use Rattle.cursor.proofs.checks.is_in.Reads as is-in
 use Rattle.cursor.proofs.checks.pick.Reads as pick
 use Rattle.cursor.proofs.records.append.Reads as append
 use Rattle.cursor.proofs.records.add.Reads as add
@@ -260,6 +261,12 @@ eat-range-no-kind-told κs x p = apart (λ o. left o .live) (p [] [] [] []) refl
 
 abbrev chain : List ℕ
 chain = kind.Comma ∷ kind.Eol ∷ []
+
+pub is-in-the-last-left-out : (κs : _) (x : _) → is-in.Post κs (kind.Eol, (lent chain, tt)) false x → ⊥
+is-in-the-last-left-out κs x p = apart bit p refl
+
+pub is-in-whatever-it-is : (κs : _) (x : _) → is-in.Post κs (kind.Ident, (lent chain, tt)) true x → ⊥
+is-in-whatever-it-is κs x p = apart bit p refl
 
 pub pick-counts-no-kind : (κs : _) (x : _) → pick.Post κs (lent tokens, (lent (0 ∷ 0 ∷ []), (state 0 0 0 0, (lent chain, tt)))) (picks.Case (state 0 0 0 0) 2) x → ⊥
 unfolding pickFrom check want kindAt count

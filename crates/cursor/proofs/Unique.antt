@@ -36,6 +36,7 @@ use Rattle.cursor.proofs.checks.eat.Reads as eat
 use Rattle.cursor.proofs.checks.unexpected.Reads as unexpected
 use Rattle.cursor.proofs.checks.expect.Reads as expect
 use Rattle.cursor.proofs.checks.eat_range.Reads as eat-range
+use Rattle.cursor.proofs.checks.is_in.Reads as is-in
 use Rattle.cursor.proofs.checks.pick.Reads as pick
 use Rattle.cursor.proofs.records.append.Reads as append
 use Rattle.cursor.proofs.records.add.Reads as add
@@ -118,6 +119,9 @@ one-expect κs args r s x y p q = let z = one moved r s (listed (x .1 .0 .now)) 
 
 pub one-eat-range : (κs : _) (args : _) (r s : _) (x y : _) → eat-range.Post κs args r x → eat-range.Post κs args s y → (r ≡ s) × (Settled (asEaten r (listed (x .1 .0 .now))) → x .1 .0 .now ≡ y .1 .0 .now)
 one-eat-range κs args r s x y p q = let z = one eaten r s (listed (x .1 .0 .now)) (listed (y .1 .0 .now)) (p [] [] [] []) (q [] [] [] []) in (z .0, λ h. ap (λ w. w .live) (z .1 h))
+
+pub one-is-in : (κs : _) (args : _) (r s : _) (x y : _) → is-in.Post κs args r x → is-in.Post κs args s y → r ≡ s
+one-is-in κs args r s x y p q = p ∙ sym q
 
 pub one-pick : (κs : _) (args : _) (r s : _) (x y : _) → pick.Post κs args r x → pick.Post κs args s y → (r ≡ s) × (Settled (asPicked r (listed (x .1 .0 .now))) → x .1 .0 .now ≡ y .1 .0 .now)
 one-pick κs args r s x y p q = let z = one picked r s (listed (x .1 .0 .now)) (listed (y .1 .0 .now)) (p [] any [] [] []) (q [] any [] [] []) in (z .0, λ h. ap (λ w. w .live) (z .1 h))

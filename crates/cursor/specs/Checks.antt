@@ -1,7 +1,8 @@
 -- Tests of what stands here, and the live list of the kinds that were expected.
 use Prim.Native.Nat.{ℕ, _+_}
 use mathlib.Core.List.{List, [], _∷_}
-use mathlib.Core.Bool.{Bool, true, false}
+use mathlib.Core.Bool.{Bool, true, false, not, _&&_, _||_}
+use lib.ListN.{length}
 use lib.Dec.{ltb, leb, eqb}
 use Rattle.cursor.specs.declared.State.{State}
 use Rattle.cursor.specs.declared.Fault.{Fault}
@@ -25,6 +26,15 @@ roomFor told more = leb (told + more) liveRoom
 unfoldable pub fullAt : Bool → ℕ → Bool
 fullAt true told = false
 fullAt false told = leb liveRoom told
+
+-- is a kind one of these?
+abbrev pub isIn : ℕ → List ℕ → Bool
+isIn k [] = false
+isIn k (a ∷ ks) = eqb k a || isIn k ks
+
+-- whether none of these kinds was found, and the live list has room for all of them
+unfoldable pub misses : ℕ → ℕ → List ℕ → Bool
+misses found told ks = not (isIn found ks) && roomFor told (length ks)
 
 -- one more expected kind, repeats kept; 11 where the live list would pass its room
 unfoldable pub want : ℕ → Rule Unit

@@ -5,7 +5,7 @@ ghost use Prim.Native.Nat.{ℕ};
 ghost use Rattle.cursor.specs.declared.Limits.{Limits};
 ghost use Rattle.cursor.specs.Sheet.{sheet};
 ghost use Rattle.cursor.specs.Rule.{world};
-ghost use Rattle.cursor.specs.Checks.{check, eat, expect, eatRange, pick, unexpectedAt, roomFor, fullAt};
+ghost use Rattle.cursor.specs.Checks.{check, eat, expect, eatRange, pick, unexpectedAt, isIn, roomFor, fullAt, misses};
 ghost use Rattle.cursor.specs.Answers.{asMoved, asTest, asEaten, asPicked};
 use crate::Eaten;
 use crate::Failure;
@@ -136,8 +136,51 @@ fn is_full(roomy: bool, told: usize) -> bool
     if roomy { false } else { LIVE_ROOM <= told }
 }
 
-// A chain of checks: the place of the first kind that stands here; where none does, the chain's length.
+// Whether a kind is one of a chain's. Nothing else is in the loop, so that the compiler makes one test of it.
+pub fn is_in(kind: u32, chain: &[u8]) -> bool
+    ensures { λ r. ⌜ r ≡ isIn kind (now (chain .entry)) ⌝ }
+{
+    let mut i = 0;
+    while i < chain.len() {
+        if kind == chain[i] as u32 {
+            return true;
+        }
+        i += 1;
+    }
+    false
+}
+
+// Whether none of a chain's kinds was found, and the live list has room for all of them.
+fn misses(found: u32, told: usize, chain: &[u8]) -> bool
+    ensures { λ r. ⌜ r ≡ misses found told (now (chain .entry)) ⌝ }
+{
+    if is_in(found, chain) {
+        return false;
+    }
+    has_room(told, chain.len())
+}
+
+// A chain of checks: the place of the first kind that stands here; where none does, the chain's length. Mostly none does: then all of them are written
+// one behind the other, with no test between them.
 pub fn pick(tokens: &[u32], live: &mut [u8; 1024], s: State, chain: &[u8]) -> Picked
+    ensures { λ r. ⌜ ((x : List ℕ) (l : Limits) (n e y : List ℕ) → asPicked r (world n e y (now (live .exit))) ≡ pick (sheet x (now (tokens .entry)) l) (now (chain .entry)) s (world n e y (now (live .entry)))) ⌝ }
+{
+    let found = current_kind(tokens, s);
+    if !misses(found, s.live as usize, chain) {
+        return seek(tokens, live, s, chain);
+    }
+    let mut t = s;
+    let mut i = 0;
+    while i < chain.len() {
+        live[t.live as usize] = chain[i];
+        t.live = t.live + 1;
+        i += 1;
+    }
+    Picked::Case(t, i)
+}
+
+// The same, kind by kind.
+fn seek(tokens: &[u32], live: &mut [u8; 1024], s: State, chain: &[u8]) -> Picked
     ensures { λ r. ⌜ ((x : List ℕ) (l : Limits) (n e y : List ℕ) → asPicked r (world n e y (now (live .exit))) ≡ pick (sheet x (now (tokens .entry)) l) (now (chain .entry)) s (world n e y (now (live .entry)))) ⌝ }
 {
     let found = current_kind(tokens, s);

@@ -10,7 +10,7 @@ use Rattle.cursor.specs.declared.State.{State}
 use Rattle.cursor.specs.Sheet.{Sheet, kindAt}
 use Rattle.cursor.specs.Buffer.{put}
 use Rattle.cursor.specs.Rule.{World, Stop, Out, done, failed, bind, _>>=_, ifSo, Next, stop, iterate}
-use Rattle.cursor.specs.Checks.{liveRoom, check, eat, eatRange, pickFrom, pick}
+use Rattle.cursor.specs.Checks.{liveRoom, check, eat, eatRange, isIn, pickFrom, pick}
 use Rattle.cursor.proofs.CheckPaths.{check-no, check-full}
 use Rattle.cursor.proofs.Loops as turning
 use Rattle.parts.specs.declared.values.Expr.{Expr}
@@ -21,17 +21,7 @@ use Rattle.parts.specs.Steps.{braced, noMember}
 use Rattle.exprs.specs.Blocks.{block}
 use Rattle.exprs.specs.Inner.{Inner}
 use Rattle.exprs.specs.Primary.{memberChain, access, postfixTurn}
-use Rattle.exprs.specs.Suffix.{suffixes, isIn, isSuffix, noSuffix}
-
--- the ways through the test of a kind
-module _ (k : ℕ) where
-  pub suffix-yes : (a : ℕ) → isIn a (suffixes true) ≡ true → k ≡ a → true ≡ isSuffix k
-  unfolding isSuffix
-  suffix-yes a p q = sym (ap (λ c. isIn c (suffixes true)) q ∙ p)
-
-  pub suffix-no : (k ≡ kind.OpenParen → ⊥) → (k ≡ kind.OpenBrace → ⊥) → (k ≡ kind.Question → ⊥) → (k ≡ kind.OpenBracket → ⊥) → (k ≡ kind.Dot → ⊥) → (k ≡ kind.DoubleColon → ⊥) → false ≡ isSuffix k
-  unfolding isSuffix
-  suffix-no a b c d e f = rw (ne-eqb _ _ a, ne-eqb _ _ b, ne-eqb _ _ c, ne-eqb _ _ d, ne-eqb _ _ e, ne-eqb _ _ f) refl
+use Rattle.exprs.specs.Suffix.{suffixes, isSuffix, noSuffix}
 
 -- the ways through `noSuffix`
 module _ (e : Sheet) (lambda : Bool) (s : State) (w : World) where

@@ -1,12 +1,11 @@
 -- What may stand behind an operand: a call or a member. An operand with neither ends the loop of `primaryOf` in its first turn (proofs/Suffixes).
 use Prim.Native.Nat.{ℕ}
-use mathlib.Core.List.{List, [], _∷_}
-use mathlib.Core.Bool.{Bool, true, false, _||_}
-use lib.Dec.{eqb}
+use mathlib.Core.List.{List, _∷_}
+use mathlib.Core.Bool.{Bool, true, false}
 use Rattle.kinds.specs.Number as kind
 use Rattle.cursor.specs.Sheet.{Sheet}
 use Rattle.cursor.specs.Rule.{Rule, _>>=_, _>>_, give}
-use Rattle.cursor.specs.Checks.{pick}
+use Rattle.cursor.specs.Checks.{isIn, pick}
 use Rattle.parts.specs.declared.values.Expr.{Expr}
 use Rattle.exprs.specs.Primary.{memberChain}
 
@@ -14,11 +13,6 @@ use Rattle.exprs.specs.Primary.{memberChain}
 abbrev pub suffixes : Bool → List ℕ
 suffixes true = kind.OpenParen ∷ kind.OpenBrace ∷ kind.Question ∷ memberChain
 suffixes false = kind.OpenParen ∷ kind.Question ∷ memberChain
-
--- is a kind one of these?
-abbrev pub isIn : ℕ → List ℕ → Bool
-isIn k [] = false
-isIn k (a ∷ ks) = eqb k a || isIn k ks
 
 unfoldable pub isSuffix : ℕ → Bool
 isSuffix k = isIn k (suffixes true)

@@ -11,6 +11,7 @@ ghost use Rattle.parts.specs.Answers.{asParsed};
 ghost use Rattle.exprs.specs.Suffix.{isSuffix, suffixes, noSuffix};
 use cursor::Picked;
 use cursor::State;
+use cursor::checks::is_in;
 use cursor::checks::pick;
 use parts::values::Expr;
 use parts::values::Parsed;
@@ -19,25 +20,15 @@ use parts::values::Parsed;
 pub fn is_suffix(kind: u32) -> bool
     ensures { λ r. ⌜ r ≡ isSuffix kind ⌝ }
 {
-    if kind == kinds::OPEN_PAREN as u32 {
-        return true;
-    }
-    if kind == kinds::OPEN_BRACE as u32 {
-        return true;
-    }
-    if kind == kinds::QUESTION as u32 {
-        return true;
-    }
-    if kind == kinds::OPEN_BRACKET as u32 {
-        return true;
-    }
-    if kind == kinds::DOT as u32 {
-        return true;
-    }
-    if kind == kinds::DOUBLE_COLON as u32 {
-        return true;
-    }
-    false
+    let chain = [
+        kinds::OPEN_PAREN,
+        kinds::OPEN_BRACE,
+        kinds::QUESTION,
+        kinds::OPEN_BRACKET,
+        kinds::DOT,
+        kinds::DOUBLE_COLON,
+    ];
+    is_in(kind, &chain)
 }
 
 // Looks for all of them; for a brace only where a trailing lambda may stand.

@@ -15,7 +15,7 @@ module _ (text tokens : List ℕ) (allowance : ℕ) (n e x : List ℕ) where
     grown = clean-tree text tokens allowance n e x;
     spoken = clean-words text tokens allowance n e x;
     summed = λ c f. followed text tokens allowance n e x f (c .read) .reads;
-    weighed = λ f r. afforded text tokens allowance f n e x r
+    weighed = λ f r. afforded text tokens allowance f n e x r;
   }
 
   pub demands : {o : Outcome} → o ≡ parse text tokens allowance n e x → (o ≡ parse text tokens allowance n e x) × Demands text tokens allowance n o
