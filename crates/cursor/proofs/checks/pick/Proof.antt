@@ -4,7 +4,7 @@ use Rattle.cursor.specs.declared.Limits.{Limits}
 use Rattle.cursor.specs.Sheet.{sheet, kindAt}
 use Rattle.cursor.specs.Rule.{world}
 use Rattle.cursor.specs.Checks.{liveRoom, pickFrom}
-use borrow.Author.Tests.{not-true, not-false}
+use borrow.Author.Tests.{not-false}
 use native.Mathlib.Omega.{arith}
 use mathlib.Core.Path.{_≡_, refl, sym, _∙_}
 use mathlib.Core.List.{List}
