@@ -28,9 +28,9 @@ counted() { # PROGRAM
 if [ "${1:-}" = --native ]; then
     linked/native.sh target/native/libparser.a
     PARSER_LIB=target/native/libparser.a linked/build.sh bench
-    echo "| class | tokens | ours, ns | ours, 8,192 records lent | original, ns | ratio | ratio, 8,192 lent |"
-    echo "|---|---|---|---|---|---|---|"
-    target/bin/bench times | awk '{ printf "| %s | %d | %s | %s | %s | %.2f | %.2f |\n", $1, $2, $3, $4, $5, $3 / $5, $4 / $5 }'
+    echo "| class | tokens | ours, ns | as the lister lends | 8,192 lent | original, ns | ratio | as the lister lends | 8,192 lent |"
+    echo "|---|---|---|---|---|---|---|---|---|"
+    target/bin/bench times | awk '{ printf "| %s | %d | %s | %s | %s | %s | %.2f | %.2f | %.2f |\n", $1, $2, $3, $4, $5, $6, $3 / $6, $4 / $6, $5 / $6 }'
     echo
     echo "For a token of the list, on $(uname -m), both compiled for it. Ratios are ours over the original's."
     exit
@@ -40,16 +40,17 @@ if [ "$(uname -m)" = x86_64 ] && [ "${1:-}" != --across ]; then
     linked/build.sh bench ${BENCH_STANDIN:+--standin}
     bench=target/bin/bench${BENCH_STANDIN:+-standin}
     counted "$bench"
-    if [ "${1:-}" = --counts ]; then sed 's/ [0-9]*$/ 0 0 0/' "$room/rows" > "$room/times"; else env -u GLIBC_TUNABLES "$bench" times > "$room/times"; fi
-    echo "| class | tokens | ours, ns | ours, 8,192 records lent | original, ns | ratio | ratio, 8,192 lent | ours, instructions | ours, 8,192 lent | original | ratio | ratio, 8,192 lent |"
-    echo "|---|---|---|---|---|---|---|---|---|---|---|---|"
+    if [ "${1:-}" = --counts ]; then sed 's/ [0-9]*$/ 0 0 0 0/' "$room/rows" > "$room/times"; else env -u GLIBC_TUNABLES "$bench" times > "$room/times"; fi
+    echo "| class | tokens | ours, ns | as the lister lends | 8,192 lent | original, ns | ratio | as the lister lends | 8,192 lent | ours, instructions | as the lister lends | 8,192 lent | original | ratio | as the lister lends | 8,192 lent |"
+    echo "|---|---|---|---|---|---|---|---|---|---|---|---|---|---|---|---|"
     awk -v rows="$room/rows" -v totals="$room/totals" '
         function over(a, b) { return b > 0 ? sprintf("%.2f", a / b) : "–" }
         {
             getline line < rows; split(line, row)
-            getline exact < totals; getline large < totals; getline theirs < totals
-            printf "| %s | %d | %s | %s | %s | %s | %s | %.0f | %.0f | %.0f | %s | %s |\n", $1, $2, $3, $4, $5, over($3, $5), over($4, $5),
-                exact / row[3], large / row[3], theirs / row[3], over(exact, theirs), over(large, theirs)
+            getline exact < totals; getline lister < totals; getline large < totals; getline theirs < totals
+            printf "| %s | %d | %s | %s | %s | %s | %s | %s | %s | %.0f | %.0f | %.0f | %.0f | %s | %s | %s |\n", $1, $2, $3, $4, $5, $6,
+                over($3, $6), over($4, $6), over($5, $6), exact / row[3], lister / row[3], large / row[3], theirs / row[3],
+                over(exact, theirs), over(lister, theirs), over(large, theirs)
         }' "$room/times"
     echo
     echo "For a token of the list, on $(uname -m). Ratios are ours over the original's."
@@ -65,18 +66,18 @@ original() { # CLASS SIZE [WORD]
 }
 linked/once.sh "$room/once"
 target/bin/bench-alone write "$room/sheets" > "$room/written"
-echo "| class | tokens | ours, x86-64 instructions | ours, 8,192 records lent | original, $(uname -m) instructions | ratio | ratio, 8,192 lent |"
-echo "|---|---|---|---|---|---|---|"
+echo "| class | tokens | ours, x86-64 instructions | as the lister lends | 8,192 lent | original, $(uname -m) instructions | ratio | as the lister lends | 8,192 lent |"
+echo "|---|---|---|---|---|---|---|---|---|"
 while read -r class size tokens; do
     theirs=$(($(original "$class" "$size" word) - $(original "$class" "$size")))
     set --
-    for form in "" -large; do
+    for form in "" -lister -large; do
         with=$(linked/instructions "$room/once" word < "$room/sheets/$class-$size$form")
         without=$(linked/instructions "$room/once" < "$room/sheets/$class-$size$form")
         set -- "$@" "$((with - without))"
     done
-    echo "$class $size $tokens $1 $2 $theirs" |
-        awk '{ o = $4 / $3; l = $5 / $3; t = $6 / $3; printf "| %s | %d | %.0f | %.0f | %.0f | %.2f | %.2f |\n", $1, $2, o, l, t, o / t, l / t }'
+    echo "$class $size $tokens $1 $2 $3 $theirs" |
+        awk '{ t = $7; printf "| %s | %d | %.0f | %.0f | %.0f | %.0f | %.2f | %.2f | %.2f |\n", $1, $2, $4 / $3, $5 / $3, $6 / $3, t / $3, $4 / t, $5 / t, $6 / t }'
 done < "$room/written"
 echo
 echo "For a token of the list, trivia too. No time is given: under an emulator it says nothing."

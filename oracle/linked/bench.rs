@@ -2,7 +2,8 @@
 //! bench counted: runs each side once over the sheets of each row, for callgrind to count: `counted` is what it collects and dumps at.
 //! bench once CLASS SIZE [WORD]: the original alone on the sheets that `write` writes for that row, run with a word and only made without: what it executes with
 //! one less what it executes without is what the original does.
-//! bench write FOLDER: the sheets of each row as once.c reads them, CLASS-SIZE for buffers just large enough, CLASS-SIZE-large for large ones.
+//! bench write FOLDER: the sheets of each row as once.c reads them, CLASS-SIZE for buffers just large enough, CLASS-SIZE-lister for those that the lister lends,
+//! CLASS-SIZE-large for large ones.
 //!
 //! A token is one of the list, trivia too. All sheets are inside the domain and are read. The library checks text and tokens first, which the original
 //! does not; the original builds a tree on the heap and drops it, with names as strings of their own (its interner is not at hand).
@@ -28,14 +29,25 @@ mod ours;
 const SIZES: [usize; 3] = [100, 1_000, 4_096];
 const CLASSES: [&str; 5] = ["grammatical", "damaged", "flat", "nested", "attempts"];
 
-/// What a large caller lends: words of node and error records, and expected kinds.
-const LARGE: [usize; 3] = [8_192 * NODE_WORDS, 64 * ERROR_WORDS, 65_536];
+/// What a caller may lend besides what a sheet needs: words of node and error records, and expected kinds. Nothing more; what the lister lends; the most that counts.
+const LENT: [(&str, [usize; 3]); 3] = [
+    ("", [0, 0, 0]),
+    ("-lister", [1_024 * NODE_WORDS, 16 * ERROR_WORDS, 1_024]),
+    ("-large", [8_192 * NODE_WORDS, 64 * ERROR_WORDS, 65_536]),
+];
 
 /// A sheet of a row, and the buffers that are just large enough for it.
 struct Job {
     bundle: Bundle,
     words: Vec<u32>,
     need: [usize; 3],
+}
+
+impl Job {
+    /// The sizes of the buffers that it is lent, never less than it needs.
+    fn lent(&self, least: [usize; 3]) -> [usize; 3] {
+        [0, 1, 2].map(|i| self.need[i].max(least[i]))
+    }
 }
 
 struct Row {
@@ -153,9 +165,9 @@ extern "C" fn counted(side: &mut Side) {
             }
         }
         #[cfg(not(alone))]
-        Side::Ours(jobs, room, large) => {
+        Side::Ours(jobs, room, least) => {
             for job in jobs.iter() {
-                let [n, e, k] = if *large { LARGE } else { job.need };
+                let [n, e, k] = job.lent(*least);
                 let mut lent =
                     ours::Lent { nodes: &mut room.0[..n], errors: &mut room.1[..e], expected: &mut room.2[..k] };
                 let mut counts = ours::Counts::default();
@@ -170,16 +182,17 @@ extern "C" fn counted(side: &mut Side) {
 enum Side<'a> {
     Theirs(Vec<Sheet<'a>>),
     #[cfg(not(alone))]
-    Ours(&'a [Job], Box<(Vec<u32>, Vec<u32>, Vec<u8>)>, bool),
+    Ours(&'a [Job], Box<(Vec<u32>, Vec<u32>, Vec<u8>)>, [usize; 3]),
 }
 
-/// The library with buffers just large enough, with large ones, and the original.
+/// The library with each of the buffers, and the original.
 fn sides(row: &Row) -> Vec<Side<'_>> {
     let mut sides = Vec::new();
     #[cfg(not(alone))]
-    for large in [false, true] {
-        let room = Box::new((vec![1; LARGE[0]], vec![1; LARGE[1]], vec![1; LARGE[2]]));
-        sides.push(Side::Ours(&row.jobs, room, large));
+    for (_, least) in LENT {
+        let [n, e, k] = LENT[2].1;
+        let room = Box::new((vec![1; n], vec![1; e], vec![1; k]));
+        sides.push(Side::Ours(&row.jobs, room, least));
     }
     sides.push(Side::Theirs(row.sheets()));
     sides
@@ -215,20 +228,19 @@ fn count() {
 fn write(folder: &str) {
     fs::create_dir_all(folder).expect("a folder");
     for row in rows() {
-        for large in [false, true] {
+        for (name, least) in LENT {
             let jobs = &row.jobs[..row.few()];
             let mut words = vec![jobs.len() as u32];
             for job in jobs {
-                let [n, e, k] = if large { LARGE } else { job.need };
+                let [n, e, k] = job.lent(least);
                 let mut text = job.bundle.text.clone();
                 words.extend([text.len(), job.words.len(), n, e, k].map(|size| size as u32));
                 text.resize(text.len().next_multiple_of(4), 0);
                 words.extend(text.chunks_exact(4).map(|b| u32::from_le_bytes([b[0], b[1], b[2], b[3]])));
                 words.extend(&job.words);
             }
-            let name = format!("{folder}/{}-{}{}", row.class, row.size, if large { "-large" } else { "" });
             let bytes: Vec<u8> = words.iter().flat_map(|word| word.to_le_bytes()).collect();
-            fs::write(name, bytes).expect("a file");
+            fs::write(format!("{folder}/{}-{}{name}", row.class, row.size), bytes).expect("a file");
         }
         println!("{} {} {}", row.class, row.size, row.few() * row.size);
     }
