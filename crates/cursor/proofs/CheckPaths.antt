@@ -11,7 +11,6 @@ use mathlib.Core.List.{[], _∷_}
 use Prim.Native.Nat.{ℕ, zero, suc, _+_, _<_, _≤_}
 use borrow.Author.Tests.{eq-eqb, ne-eqb, lt-ltb, le-ltb, leb-true, leb-false, le-leb, lt-leb}
 use Rattle.cursor.specs.declared.State.{State}
-use Rattle.cursor.specs.declared.Fault.{Fault}
 use Rattle.cursor.specs.declared.Ranged.{Ranged}
 use Rattle.cursor.specs.declared.Ranged.the-variants as ranged
 use Rattle.cursor.specs.Sheet.{Sheet, kindAt, rangeAt}
@@ -76,9 +75,9 @@ module _ (e : Sheet) (k : ℕ) (s : State) (w : World) where
   unfolding expect
   expect-yes p = rw p
 
-  pub expect-no : {s1 : State} {w1 : World} {f : Fault} → eat e k s w ≡ done s1 w1 false → f ≡ unexpectedAt e s1 → expect e k s w ≡ failed (fault s1 w1 f)
+  pub expect-no : {s1 : State} {w1 : World} → eat e k s w ≡ done s1 w1 false → expect e k s w ≡ failed (fault s1 w1 (unexpectedAt e s1))
   unfolding expect unexpected
-  expect-no p q = rw p (rw q)
+  expect-no p = rw p
 
   pub range-no : {s1 : State} {w1 : World} → check e k s w ≡ done s1 w1 false → eatRange e k s w ≡ done s1 w1 ranged.Nowhere
   unfolding eatRange

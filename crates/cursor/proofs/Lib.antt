@@ -1,6 +1,7 @@
 pub mod CheckPaths
 pub mod ChainPaths
 pub mod Ends
+pub mod Failures
 pub mod Loops
 pub mod RecordPaths
 pub mod TokenPaths

@@ -36,11 +36,11 @@ use Rattle.cursor.specs.declared.Built.the-variants as builds
 use Rattle.cursor.specs.Sheet.{count, kindAt, rangeAt}
 use Rattle.cursor.specs.Buffer.{put, copy}
 use Rattle.cursor.specs.Layout.{NEXT, FLAGS}
-use Rattle.cursor.specs.Rule.{World, world, fault, refusal, refused, Out, done, failed, turns, iterate}
+use Rattle.cursor.specs.Rule.{World, world, begin, erred, fault, refusal, refused, Out, done, failed, turns, iterate}
 use Rattle.cursor.specs.Tokens.{pastFrom, pastTrivia, startOf, endOf, bump, eatTrivia, eolTurn, eatEol, rewind}
 use Rattle.cursor.specs.Checks.{want, check, eat, unexpectedAt, unexpected, expect, eatRange, pickFrom}
 use Rattle.cursor.specs.Records.{bit, write, append, add, reflag, writeError, log}
-use Rattle.cursor.proofs.Told.{heldBy, erred}
+use Rattle.cursor.proofs.Told.{heldBy}
 use Rattle.cursor.proofs.RecordPaths.{append-full}
 use Rattle.cursor.proofs.reader.over as over
 use Rattle.cursor.proofs.reader.kind as here-kind
@@ -56,6 +56,8 @@ use Rattle.cursor.proofs.tokens.end_range.Reads as end-range
 use Rattle.cursor.proofs.tokens.rewind.Reads as rewind
 use Rattle.cursor.proofs.checks.check.Reads as check
 use Rattle.cursor.proofs.checks.eat.Reads as eat
+use Rattle.cursor.proofs.checks.erred.Reads as erred
+use Rattle.cursor.proofs.checks.unexpected_at.Reads as unexpected-at
 use Rattle.cursor.proofs.checks.unexpected.Reads as unexpected
 use Rattle.cursor.proofs.checks.expect.Reads as expect
 use Rattle.cursor.proofs.checks.eat_range.Reads as eat-range
@@ -233,13 +235,30 @@ pub eat-taken-is-no : (κs : _) (x : _) → eat.Post κs (lent tokens, (lent (0 
 unfolding eat check bump pastTrivia pastFrom kindAt rangeAt count isTrivia
 eat-taken-is-no κs x p = apart says (p [] [] [] []) refl
 
-pub unexpected-eof-at-0 : (κs : _) (x : _) → unexpected.Post κs (lent tokens, (state 3 3 0 0, tt)) (record { class = 0; found = kind.Eof; span = span 0 3; listed = true }) x → ⊥
-unfolding unexpectedAt kindAt rangeAt count
-unexpected-eof-at-0 κs x p = apart (λ f. f .span .start) (p [] limits) refl
+-- a comma that nobody wanted
+abbrev comma : Fault
+comma = record { class = 0; found = kind.Comma; span = span 2 3; listed = true }
 
-pub unexpected-lists-nothing : (κs : _) (x : _) → unexpected.Post κs (lent tokens, (state 3 3 0 0, tt)) (record { class = 0; found = kind.Eof; span = span 3 3; listed = false }) x → ⊥
+pub erred-with-a-number : (κs : _) (x : _) → erred.Post κs (state 2 1 1 0, (comma, tt)) (record { state = state 2 1 1 0; number = 7; fault = comma }) x → ⊥
+erred-with-a-number κs x p = apart (λ f. f .number) p refl
+
+pub erred-without-a-place : (κs : _) (x : _) → erred.Post κs (state 2 1 1 0, (comma, tt)) (erred begin comma) x → ⊥
+erred-without-a-place κs x p = apart (λ f. f .state .at) p refl
+
+pub unexpected-at-eof-from-0 : (κs : _) (x : _) → unexpected-at.Post κs (lent tokens, (state 3 3 0 0, tt)) (record { class = 0; found = kind.Eof; span = span 0 3; listed = true }) x → ⊥
 unfolding unexpectedAt kindAt rangeAt count
-unexpected-lists-nothing κs x p = apart (λ f. bit (f .listed)) (p [] limits) refl
+unexpected-at-eof-from-0 κs x p = apart (λ f. f .span .start) (p [] limits) refl
+
+pub unexpected-at-lists-nothing : (κs : _) (x : _) → unexpected-at.Post κs (lent tokens, (state 3 3 0 0, tt)) (record { class = 0; found = kind.Eof; span = span 3 3; listed = false }) x → ⊥
+unfolding unexpectedAt kindAt rangeAt count
+unexpected-at-lists-nothing κs x p = apart (λ f. bit (f .listed)) (p [] limits) refl
+
+pub unexpected-past-the-token : (κs : _) (x : _) → unexpected.Post κs (lent tokens, (state 2 1 1 0, tt)) (erred (state 3 3 2 0) comma) x → ⊥
+unexpected-past-the-token κs x p = apart (λ f. f .state .at) (p [] limits) refl
+
+pub unexpected-of-another-token : (κs : _) (x : _) → unexpected.Post κs (lent tokens, (state 0 0 0 0, tt)) (erred (state 0 0 0 0) comma) x → ⊥
+unfolding unexpectedAt kindAt rangeAt count
+unexpected-of-another-token κs x p = apart (λ f. f .fault .found) (p [] limits) refl
 
 pub expect-not-moved : (κs : _) (x : _) → expect.Post κs (lent tokens, (lent (0 ∷ []), (limits, (state 0 0 0 0, (kind.Ident, tt))))) (moves.On (state 0 0 0 0)) x → ⊥
 unfolding expect eat check bump pastTrivia pastFrom kindAt rangeAt count isTrivia

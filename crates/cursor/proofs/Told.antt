@@ -4,9 +4,7 @@
 -- Assumes nothing.
 use mathlib.Core.Path.{_≡_, refl, sym, ap, _∙_, subst}
 use mathlib.Core.Bool.{Bool, true, false}
-use Prim.Native.Nat.{ℕ, zero, suc}
-use Rattle.cursor.specs.declared.State.{State}
-use Rattle.cursor.specs.declared.Fault.{Fault}
+use Prim.Native.Nat.{ℕ}
 use Rattle.cursor.specs.declared.Failure.{Failure}
 use Rattle.cursor.specs.declared.Moved.{Moved}
 use Rattle.cursor.specs.declared.Moved.the-variants as moves
@@ -20,8 +18,9 @@ use Rattle.cursor.specs.declared.Built.{Built}
 use Rattle.cursor.specs.declared.Built.the-variants as builds
 use Rattle.cursor.specs.declared.Ranged.{Ranged}
 use Rattle.cursor.specs.declared.Ranged.the-variants as ranged
-use Rattle.cursor.specs.Rule.{World, Stop, fault, refused, Out, done, failed}
+use Rattle.cursor.specs.Rule.{World, erred, Stop, fault, refused, Out, done, failed}
 use Rattle.cursor.specs.Answers.{asStop, asMoved, asTest, asEaten, asPicked, asBuilt}
+use Rattle.cursor.proofs.Failures.{by-number}
 
 -- the reading goes on, or stops by an error: only a refusal says nothing of the buffers
 abbrev pub Settled : {A : Type 0} → Out A → Type 0
@@ -45,28 +44,16 @@ pub record Told {A B : Type 0} (f : B → World → Out A) : Type 0 where
 pub one : {A B : Type 0} {f : B → World → Out A} {o : Out A} → Told f → (r s : B) (w x : World) → f r w ≡ o → f s x ≡ o → (r ≡ s) × (Settled (f r w) → w ≡ x)
 one {f = f} told r s w x p q = (sym (told .answer r w) ∙ ap (told .back) (p ∙ sym q) ∙ told .answer s x, λ h. sym (told .buffers r w w h) ∙ ap (heldBy w) (p ∙ sym q) ∙ told .buffers s w x (subst Settled (p ∙ sym q) h))
 
--- an error as a failure
-abbrev pub erred : State → Fault → Failure
-erred s f = record { state = s; number = 0; fault = f }
-
 abbrev pub backStop : Stop → Failure
 backStop (fault s w f) = erred s f
 backStop (refused f) = f
 
 -- a failure can be read off the stop that it stands for, and what the buffers hold off an error
 pub failure : (f : Failure) (w : World) → backStop (asStop f w) ≡ f
-failure f w = at (f .state) (f .number) (f .fault)
-  where
-    at : (s : State) (n : ℕ) (x : Fault) → backStop (asStop (record { state = s; number = n; fault = x }) w) ≡ record { state = s; number = n; fault = x }
-    at s zero x = refl
-    at s (suc n) x = refl
+failure f w = by-number (λ g. backStop (asStop g w) ≡ g) (λ s x. refl) (λ s n x. refl) f
 
 pub lost : (A : Type 0) (f : Failure) (d w : World) → Settled {A = A} (failed (asStop f w)) → heldBy {A = A} d (failed (asStop f w)) ≡ w
-lost A f d w = at (f .state) (f .number) (f .fault)
-  where
-    at : (s : State) (n : ℕ) (x : Fault) → Settled {A = A} (failed (asStop (record { state = s; number = n; fault = x }) w)) → heldBy {A = A} d (failed (asStop (record { state = s; number = n; fault = x }) w)) ≡ w
-    at s zero x h = refl
-    at s (suc n) x h = absurd h
+lost A f d w = by-number (λ g. Settled {A = A} (failed (asStop g w)) → heldBy {A = A} d (failed (asStop g w)) ≡ w) (λ s x h. refl) (λ s n x h. absurd h) f
 
 pub moved : Told asMoved
 moved = record { back = back; answer = answer; buffers = buffers }

@@ -14,9 +14,8 @@ use prog.Wp.{Heap}
 use ghost.Atoms.{Atoms}
 use contract.Monad.{Fun, fact, fact-mono}
 use denote.Triple.Walked.{needs}
-use Rattle.cursor.specs.declared.State.{State}
 use Rattle.cursor.specs.declared.Limits.{Limits}
-use Rattle.cursor.specs.Rule.{World, world}
+use Rattle.cursor.specs.Rule.{World, world, begin}
 use Rattle.cursor.specs.Answers.{asMoved, asTest, asEaten, asPicked, asBuilt}
 use Rattle.cursor.proofs.Told.{Settled, heldBy, one, moved, tested, eaten, picked, built}
 use Rattle.cursor.proofs.reader.over as over
@@ -33,6 +32,8 @@ use Rattle.cursor.proofs.tokens.end_range.Reads as end-range
 use Rattle.cursor.proofs.tokens.rewind.Reads as rewind
 use Rattle.cursor.proofs.checks.check.Reads as check
 use Rattle.cursor.proofs.checks.eat.Reads as eat
+use Rattle.cursor.proofs.checks.erred.Reads as erred
+use Rattle.cursor.proofs.checks.unexpected_at.Reads as unexpected-at
 use Rattle.cursor.proofs.checks.unexpected.Reads as unexpected
 use Rattle.cursor.proofs.checks.expect.Reads as expect
 use Rattle.cursor.proofs.checks.eat_range.Reads as eat-range
@@ -54,9 +55,6 @@ listed live = world [] [] [] live
 abbrev any : Limits
 any = record { allowance = 0 }
 
-abbrev start : State
-start = record { at = 0; prev = 0; reads = 0; nodes = 0; errors = 0; wanted = 0; live = 0 }
-
 -- a contract that is an equation with the answer
 pub one-current-kind : (κs : _) (args : _) (r s : _) (x y : _) → current-kind.Post κs args r x → current-kind.Post κs args s y → r ≡ s
 one-current-kind κs args r s x y p q = p ∙ sym q
@@ -75,6 +73,12 @@ one-rewind κs args r s x y p q = p ∙ sym q
 
 pub one-flagged : (κs : _) (args : _) (r s : _) (x y : _) → flagged.Post κs args r x → flagged.Post κs args s y → r ≡ s
 one-flagged κs args r s x y p q = p ∙ sym q
+
+pub one-erred : (κs : _) (args : _) (r s : _) (x y : _) → erred.Post κs args r x → erred.Post κs args s y → r ≡ s
+one-erred κs args r s x y p q = p ∙ sym q
+
+pub one-unexpected-at : (κs : _) (args : _) (r s : _) (x y : _) → unexpected-at.Post κs args r x → unexpected-at.Post κs args s y → r ≡ s
+one-unexpected-at κs args r s x y p q = p [] any ∙ sym (q [] any)
 
 pub one-unexpected : (κs : _) (args : _) (r s : _) (x y : _) → unexpected.Post κs args r x → unexpected.Post κs args s y → r ≡ s
 one-unexpected κs args r s x y p q = p [] any ∙ sym (q [] any)
@@ -131,10 +135,10 @@ pub one-append : (κs : _) (args : _) (r s : _) (x y : _) → append.Post κs ar
 one-append κs args r s x y p q = let z = one built r s (world (x .0 .now) [] [] []) (world (y .0 .now) [] [] []) (p [] [] []) (q [] [] []) in (z .0, λ h. ap (λ w. w .nodes) (z .1 h))
 
 pub one-add : (κs : _) (args : _) (r s : _) (x y : _) → add.Post κs args r x → add.Post κs args s y → (r ≡ s) × (x .0 .now ≡ y .0 .now)
-one-add κs args r s x y p q = (cc (p start [] [] [], q start [] [] []), ap (λ o. heldBy blank o .nodes) (p start [] [] [] ∙ sym (q start [] [] [])))
+one-add κs args r s x y p q = (cc (p begin [] [] [], q begin [] [] []), ap (λ o. heldBy blank o .nodes) (p begin [] [] [] ∙ sym (q begin [] [] [])))
 
 pub one-reflag : (κs : _) (args : _) (r s : _) (x y : _) → reflag.Post κs args r x → reflag.Post κs args s y → x .0 .now ≡ y .0 .now
-one-reflag κs args r s x y p q = ap (λ o. heldBy blank o .nodes) (p start [] [] [] ∙ sym (q start [] [] []))
+one-reflag κs args r s x y p q = ap (λ o. heldBy blank o .nodes) (p begin [] [] [] ∙ sym (q begin [] [] []))
 
 pub one-log-error : (κs : _) (args : _) (r s : _) (x y : _) → log-error.Post κs args r x → log-error.Post κs args s y
     → (r ≡ s) × (Settled (asMoved r (world [] (x .0 .now) (x .1 .0 .now) (args .1 .1 .0 .now))) → (x .0 .now ≡ y .0 .now) × (x .1 .0 .now ≡ y .1 .0 .now))

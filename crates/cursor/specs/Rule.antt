@@ -17,9 +17,17 @@ pub record World : Type 0 where
 abbrev pub world : List ℕ → List ℕ → List ℕ → List ℕ → World
 world n e x l = record { nodes = n; errors = e; expected = x; live = l }
 
+-- where a reading begins: before the first token, with nothing read, built or logged
+abbrev pub begin : State
+begin = record { at = 0; prev = 0; reads = 0; nodes = 0; errors = 0; wanted = 0; live = 0 }
+
+-- an error as a failure: number 0, where it was met, and what it is
+abbrev pub erred : State → Fault → Failure
+erred s f = record { state = s; number = 0; fault = f }
+
 -- a refusal under a number, 7 to 11, which is all that it tells
 abbrev pub refusal : ℕ → Failure
-refusal n = record { state = record { at = 0; prev = 0; reads = 0; nodes = 0; errors = 0; wanted = 0; live = 0 }; number = n; fault = record { class = 0; found = 0; span = record { start = 0; end = 0 }; listed = false } }
+refusal n = record { state = begin; number = n; fault = record { class = 0; found = 0; span = record { start = 0; end = 0 }; listed = false } }
 
 -- how a rule fails: Rust's Err, which is not logged yet; or a refusal, which ends the whole reading
 pub data Stop : Type 0 where

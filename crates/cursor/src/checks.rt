@@ -4,7 +4,7 @@ ghost use mathlib.Core.List.{List};
 ghost use Prim.Native.Nat.{ℕ};
 ghost use Rattle.cursor.specs.declared.Limits.{Limits};
 ghost use Rattle.cursor.specs.Sheet.{sheet};
-ghost use Rattle.cursor.specs.Rule.{world};
+ghost use Rattle.cursor.specs.Rule.{world, erred};
 ghost use Rattle.cursor.specs.Checks.{check, eat, expect, eatRange, pick, unexpectedAt, isIn, roomFor, fullAt, misses};
 ghost use Rattle.cursor.specs.Answers.{asMoved, asTest, asEaten, asPicked};
 use crate::Eaten;
@@ -57,8 +57,19 @@ pub fn eat(tokens: &[u32], live: &mut [u8; 1024], limits: Limits, s: State, kind
     }
 }
 
+// A rule ends here by this error.
+pub fn erred(s: State, fault: Fault) -> Failure
+    ensures { λ r. ⌜ r ≡ erred s fault ⌝ }
+{
+    Failure {
+        state: s,
+        number: 0,
+        fault,
+    }
+}
+
 // The error of an unexpected token; at the end of input, Eof with an empty range at the end of the last token read.
-pub fn unexpected(tokens: &[u32], s: State) -> Fault
+pub fn unexpected_at(tokens: &[u32], s: State) -> Fault
     ensures { λ r. ⌜ ((x : List ℕ) (l : Limits) → r ≡ unexpectedAt (sheet x (now (tokens .entry)) l) s) ⌝ }
 {
     let found = current_kind(tokens, s);
@@ -78,6 +89,13 @@ pub fn unexpected(tokens: &[u32], s: State) -> Fault
     }
 }
 
+// A rule ends here since the token is unexpected.
+pub fn unexpected(tokens: &[u32], s: State) -> Failure
+    ensures { λ r. ⌜ ((x : List ℕ) (l : Limits) → r ≡ erred s (unexpectedAt (sheet x (now (tokens .entry)) l) s)) ⌝ }
+{
+    erred(s, unexpected_at(tokens, s))
+}
+
 // A token of this kind has to stand here, and is taken.
 pub fn expect(tokens: &[u32], live: &mut [u8; 1024], limits: Limits, s: State, kind: u8) -> Moved
     ensures { λ r. ⌜ ((x n e y : List ℕ) → asMoved r (world n e y (now (live .exit))) ≡ expect (sheet x (now (tokens .entry)) limits) kind s (world n e y (now (live .entry)))) ⌝ }
@@ -85,11 +103,7 @@ pub fn expect(tokens: &[u32], live: &mut [u8; 1024], limits: Limits, s: State, k
     let here = eat(tokens, live, limits, s, kind);
     match here {
         Test::Yes(t) => Moved::On(t),
-        Test::No(t) => Moved::Failed(Failure {
-            state: t,
-            number: 0,
-            fault: unexpected(tokens, t),
-        }),
+        Test::No(t) => Moved::Failed(unexpected(tokens, t)),
         Test::Failed(f) => Moved::Failed(f),
     }
 }

@@ -60,36 +60,37 @@ pub struct Failure {
 
 // The refusals: no room for a node record, for an error record or its kinds, for a level, for a reading, in the live list. A refusal has its number alone.
 pub const NO_ROOM: Failure = Failure {
-    state: NOWHERE,
+    state: BEGIN,
     number: 7,
     fault: NO_FAULT,
 };
 
 pub const ERRORS_FULL: Failure = Failure {
-    state: NOWHERE,
+    state: BEGIN,
     number: 8,
     fault: NO_FAULT,
 };
 
 pub const TOO_DEEP: Failure = Failure {
-    state: NOWHERE,
+    state: BEGIN,
     number: 9,
     fault: NO_FAULT,
 };
 
 pub const ALL_SPENT: Failure = Failure {
-    state: NOWHERE,
+    state: BEGIN,
     number: 10,
     fault: NO_FAULT,
 };
 
 pub const LIST_FULL: Failure = Failure {
-    state: NOWHERE,
+    state: BEGIN,
     number: 11,
     fault: NO_FAULT,
 };
 
-const NOWHERE: State = State {
+// Where a reading begins: before the first token, with nothing read, built or logged. A refusal has it too, since it tells of no place.
+pub const BEGIN: State = State {
     at: 0,
     prev: 0,
     reads: 0,

@@ -134,9 +134,9 @@ module _ (r : Inner) where
 
   -- an assignment, with an operator or without
   module _ (from which : ℕ) (x : Expr) (s : State) (w : World) where
-    pub set-nothing : {f : Fault} → assigns.Nothing ≡ toAssignLeft x → f ≡ unexpectedAt (r .sheet) s → set r from which x s w ≡ failed (fault s w f)
+    pub set-nothing : assigns.Nothing ≡ toAssignLeft x → set r from which x s w ≡ failed (fault s w (unexpectedAt (r .sheet) s))
     unfolding set setTo unexpected
-    set-nothing p q = rw (← p) (rw q)
+    set-nothing p = rw (← p)
 
     module _ {link : ℕ} (p : assigns.To link ≡ toAssignLeft x) where
       pub set-spent : {y : Stop} → bump (r .sheet) s w ≡ failed y → set r from which x s w ≡ failed y
@@ -153,14 +153,14 @@ module _ (r : Inner) where
         set-op c d = rw (← p) (rw q (rw (ne-eqb _ _ c) (rw d)))
 
   -- an assignment to a name with a type: to anything else it is an error
-  pub typed-wrong : (from : ℕ) (x : Expr) (s : State) (w : World) {f : Fault} → OneOf (1 ∷ 2 ∷ 3 ∷ []) (tagOf told.the-type x) → f ≡ unexpectedAt (r .sheet) s → typed r from x s w ≡ failed (fault s w f)
+  pub typed-wrong : (from : ℕ) (x : Expr) (s : State) (w : World) → OneOf (1 ∷ 2 ∷ 3 ∷ []) (tagOf told.the-type x) → typed r from x s w ≡ failed (fault s w (unexpectedAt (r .sheet) s))
   unfolding typed unexpected
-  typed-wrong from (exprs.Name name) s w (inl h) q = absurd (omega arith)
-  typed-wrong from (exprs.Name name) s w (inr (inl h)) q = absurd (omega arith)
-  typed-wrong from (exprs.Name name) s w (inr (inr h)) q = absurd (omega arith)
-  typed-wrong from (exprs.NameMember link) s w h q = rw q
-  typed-wrong from (exprs.Call link called) s w h q = rw q
-  typed-wrong from (exprs.Other link) s w h q = rw q
+  typed-wrong from (exprs.Name name) s w (inl h) = absurd (omega arith)
+  typed-wrong from (exprs.Name name) s w (inr (inl h)) = absurd (omega arith)
+  typed-wrong from (exprs.Name name) s w (inr (inr h)) = absurd (omega arith)
+  typed-wrong from (exprs.NameMember link) s w h = refl
+  typed-wrong from (exprs.Call link called) s w h = refl
+  typed-wrong from (exprs.Other link) s w h = refl
 
   module _ (from : ℕ) (x : Expr) (s : State) (w : World) {name : ℕ} (n : x ≡ exprs.Name name) where
     pub typed-spent : {y : Stop} → bump (r .sheet) s w ≡ failed y → typed r from x s w ≡ failed y
@@ -246,9 +246,9 @@ module _ (r : Inner) where
 
   -- an assignment to several
   module _ (from : ℕ) (x : Expr) (s : State) (w : World) where
-    pub multi-nothing : {f : Fault} → assigns.Nothing ≡ toAssignLeft x → f ≡ unexpectedAt (r .sheet) s → multi r from x s w ≡ failed (fault s w f)
+    pub multi-nothing : assigns.Nothing ≡ toAssignLeft x → multi r from x s w ≡ failed (fault s w (unexpectedAt (r .sheet) s))
     unfolding multi multiTo unexpected
-    multi-nothing p q = rw (← p) (rw q)
+    multi-nothing p = rw (← p)
 
     module _ {one : ℕ} (p : assigns.To one ≡ toAssignLeft x) where
       pub multi-failed : {y : Stop} → lefts r (rowWith one) s w ≡ failed y → multi r from x s w ≡ failed y

@@ -20,7 +20,6 @@ use crate::suffix::is_suffix;
 use crate::suffix::no_suffix;
 use cursor::Built;
 use cursor::Eaten;
-use cursor::Failure;
 use cursor::Kids;
 use cursor::Moved;
 use cursor::Picked;
@@ -32,6 +31,7 @@ use cursor::Test;
 use cursor::checks::check;
 use cursor::checks::eat;
 use cursor::checks::eat_range;
+use cursor::checks::erred;
 use cursor::checks::expect;
 use cursor::checks::pick;
 use cursor::checks::unexpected;
@@ -701,11 +701,7 @@ fn tried(
         Parsed::Failed(f) => return Parsed::Failed(f),
     }
     let Expr::Call(link, called) = x else {
-        return Parsed::Failed(Failure {
-            state: s2,
-            number: 0,
-            fault: alone(kinds::TRY, span_of(here)),
-        });
+        return Parsed::Failed(erred(s2, alone(kinds::TRY, span_of(here))));
     };
     let mut t = s2;
     let mut kids = called.kids;
@@ -2017,11 +2013,7 @@ fn set(
     let to = to_assign_left(x);
     let link = match to {
         AssignLeft::To(l) => l,
-        AssignLeft::Nothing => return Built::Failed(Failure {
-            state: s,
-            number: 0,
-            fault: unexpected(tokens, s),
-        }),
+        AssignLeft::Nothing => return Built::Failed(unexpected(tokens, s)),
     };
     let taken = bump(tokens, limits, s);
     let s1 = match taken {
@@ -2102,11 +2094,7 @@ fn typed(
     let limits = left.limits;
     let depth = left.depth;
     let Expr::Name(name) = x else {
-        return Built::Failed(Failure {
-            state: s,
-            number: 0,
-            fault: unexpected(tokens, s),
-        });
+        return Built::Failed(unexpected(tokens, s));
     };
     let colon = bump(tokens, limits, s);
     let s1 = match colon {
@@ -2172,11 +2160,7 @@ fn many(
     let to = to_assign_left(x);
     let one = match to {
         AssignLeft::To(l) => l,
-        AssignLeft::Nothing => return Built::Failed(Failure {
-            state: s,
-            number: 0,
-            fault: unexpected(tokens, s),
-        }),
+        AssignLeft::Nothing => return Built::Failed(unexpected(tokens, s)),
     };
     let first = Kids {
         first: one,
@@ -2270,13 +2254,7 @@ fn lhs(
         let to = to_assign_left(x);
         let link = match to {
             AssignLeft::To(l) => l,
-            AssignLeft::Nothing => {
-                return Rowed::Failed(Failure {
-                    state: s2,
-                    number: 0,
-                    fault: alone(kinds::COMMA, span),
-                });
-            }
+            AssignLeft::Nothing => return Rowed::Failed(erred(s2, alone(kinds::COMMA, span))),
         };
         kids = add(nodes, kids, link);
         t = s2;

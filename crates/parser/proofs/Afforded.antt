@@ -7,7 +7,7 @@ use native.Mathlib.Omega.{arith}
 use lib.ListN.{length, replicate, length-replicate}
 use Rattle.cursor.specs.declared.Failure.{Failure}
 use Rattle.cursor.specs.Layout.{nodeWords, nodeLimit}
-use Rattle.cursor.specs.Rule.{world, refused, Out, done, failed}
+use Rattle.cursor.specs.Rule.{world, begin, refused, Out, done, failed}
 use Rattle.cursor.specs.Checks.{liveRoom}
 use Rattle.cursor.specs.Tree.{size}
 use Rattle.entry.specs.declared.Entry.the-variants as entries
@@ -22,7 +22,7 @@ use Rattle.marks.proofs.Marked.{cost-marks}
 use Rattle.live.proofs.Program.{program-bounded}
 use Rattle.parser.specs.Blank.{blank}
 use Rattle.parser.specs.Finish.{finished}
-use Rattle.parser.specs.Parse.{begin, depth, reading, parse}
+use Rattle.parser.specs.Parse.{depth, reading, parse}
 use Rattle.parser.specs.Demands.{Roomy, Weighed}
 use Rattle.parser.proofs.Demands.{lent, few}
 

@@ -8,7 +8,7 @@ use lib.ListN.{length, getD, replicate}
 use Rattle.kinds.specs.Number as kind
 use Rattle.cursor.specs.Layout.{nodeWords, cell}
 use Rattle.cursor.specs.Sheet.{Sheet, sheet, count, kindAt}
-use Rattle.cursor.specs.Rule.{World, world, fault, refused, Out, done, failed}
+use Rattle.cursor.specs.Rule.{World, world, begin, fault, refused, Out, done, failed}
 use Rattle.cursor.specs.Checks.{liveRoom}
 use Rattle.cursor.specs.Tree.{word, meaning}
 use Rattle.cursor.proofs.Finished.{Agree}
@@ -30,7 +30,7 @@ use Rattle.marks.proofs.Marked.{cost-marks}
 use Rattle.parser.specs.Blank.{upTo, blank}
 use Rattle.parser.specs.Outcome.{Outcome}
 use Rattle.parser.specs.Finish.{finished}
-use Rattle.parser.specs.Parse.{begin, within, reading, parse}
+use Rattle.parser.specs.Parse.{within, reading, parse}
 use Rattle.parser.specs.Demands.{Clean, treeIn}
 use Rattle.parser.proofs.Numbers.{read-has-a-record}
 

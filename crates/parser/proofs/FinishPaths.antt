@@ -1,13 +1,14 @@
 -- What is told of a reading whose buffers were cleared past its counts, or all over.
 use mathlib.Core.Path.{_≡_, refl, _∙_}
 use mathlib.Core.List.{List}
-use Prim.Native.Nat.{ℕ, zero, suc, _*_}
+use Prim.Native.Nat.{ℕ, _*_}
+use native.Mathlib.Omega.{arith}
 use Rattle.cursor.specs.declared.State.{State}
-use Rattle.cursor.specs.declared.Fault.{Fault}
 use Rattle.cursor.specs.declared.Failure.{Failure}
 use Rattle.cursor.specs.Rule.{world, failed}
 use Rattle.cursor.specs.Answers.{asStop}
 use Rattle.cursor.specs.Layout.{nodeWords, errorWords}
+use Rattle.cursor.proofs.Failures.{a-refusal}
 use Rattle.parser.specs.declared.Answer.the-variants as answers
 use Rattle.parser.specs.Blank.{upTo}
 use Rattle.parser.specs.Outcome.{Outcome, told}
@@ -29,8 +30,4 @@ module _ (n e x : List ℕ) {n1 e1 x1 : List ℕ} where
 
     pub refused-is : (f .number ≡ 0 → ⊥) → n1 ≡ upTo 0 n → e1 ≡ upTo 0 e → x1 ≡ upTo 0 x → told (answers.Refused (f .number)) n1 e1 x1 ≡ finished (upTo 0 n) (upTo 0 e) (upTo 0 x) (failed (asStop f (world n e x l)))
     unfolding finished
-    refused-is h p q r = over refl refl refl refl refl p q r ∙ at (f .state) (f .number) (f .fault) h
-      where
-        at : (s : State) (k : ℕ) (g : Fault) → (k ≡ 0 → ⊥) → told (answers.Refused k) (upTo 0 n) (upTo 0 e) (upTo 0 x) ≡ finished (upTo 0 n) (upTo 0 e) (upTo 0 x) (failed (asStop (record { state = s; number = k; fault = g }) (world n e x l)))
-        at s zero g h = absurd (h refl)
-        at s (suc k) g h = refl
+    refused-is h p q r = over refl refl refl refl refl p q r ∙ rw (a-refusal f (world n e x l) (omega (arith, h)))

@@ -9,7 +9,7 @@ use Rattle.kinds.specs.Number as kind
 use Rattle.cursor.specs.declared.State.{State}
 use Rattle.cursor.specs.declared.Label.{Label}
 use Rattle.cursor.specs.Layout.{nodeWords, nodeLimit}
-use Rattle.cursor.specs.Rule.{World, world, fault, refused, Out, done, failed, bind}
+use Rattle.cursor.specs.Rule.{World, world, begin, fault, refused, Out, done, failed, bind}
 use Rattle.cursor.specs.Records.{append}
 use Rattle.cursor.specs.Checks.{liveRoom}
 use Rattle.cursor.proofs.Ends.{Ends, Any, branch}
@@ -31,7 +31,7 @@ use Rattle.parser.specs.declared.Answer.the-variants as answers
 use Rattle.parser.specs.Blank.{blank}
 use Rattle.parser.specs.Outcome.{Outcome, unread, told}
 use Rattle.parser.specs.Finish.{finished}
-use Rattle.parser.specs.Parse.{begin, within, reading, parse}
+use Rattle.parser.specs.Parse.{within, reading, parse}
 
 -- whatever a rule comes to, what goes on from it has a record
 Kept : State → World → ℕ → Type 0

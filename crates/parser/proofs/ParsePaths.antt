@@ -2,15 +2,15 @@
 -- blind to what the buffers held.
 use mathlib.Core.Path.{_≡_, refl, sym, ap, _∙_}
 use mathlib.Core.List.{List}
-use Prim.Native.Nat.{ℕ, zero, suc, _<_}
+use Prim.Native.Nat.{ℕ, _<_}
 use native.Mathlib.Omega.{arith}
 use lib.ListN.{length, replicate, length-replicate}
 use Rattle.cursor.specs.declared.State.{State}
-use Rattle.cursor.specs.declared.Fault.{Fault}
 use Rattle.cursor.specs.declared.Failure.{Failure}
-use Rattle.cursor.specs.Rule.{World, world, Stop, fault, refused, Out, done, failed}
+use Rattle.cursor.specs.Rule.{World, world, begin, Stop, fault, refused, Out, done, failed}
 use Rattle.cursor.specs.Answers.{asStop}
 use Rattle.cursor.specs.Checks.{liveRoom}
+use Rattle.cursor.proofs.Failures.{by-number}
 use Rattle.cursor.proofs.Keeps.{Mark, mark, mark-stands, Same}
 use Rattle.entry.specs.declared.Refusal.{Refusal}
 use Rattle.entry.specs.declared.Entry.the-variants as entries
@@ -22,7 +22,7 @@ use Rattle.parser.specs.declared.Answer.the-variants as answers
 use Rattle.parser.specs.Blank.{upTo, blank}
 use Rattle.parser.specs.Outcome.{told}
 use Rattle.parser.specs.Finish.{Numbered, trimmed, finished}
-use Rattle.parser.specs.Parse.{begin, within, reading, parse}
+use Rattle.parser.specs.Parse.{within, reading, parse}
 use Rattle.parser.proofs.Blanks.{up-to-none, up-to-same}
 use Rattle.parser.proofs.FinishPaths.{over}
 
@@ -57,11 +57,7 @@ ending-short (cut too-many-kinds) = omega arith
 
 pub numbered : (f : Failure) (w : World) → number (asStop f w) < 256 → Numbered f
 unfolding number
-numbered f w = at (f .state) (f .number) (f .fault)
-  where
-    at : (s : State) (n : ℕ) (g : Fault) → number (asStop (record { state = s; number = n; fault = g }) w) < 256 → n < 256
-    at s zero g h = h
-    at s (suc n) g h = h
+numbered f w = by-number (λ g. number (asStop g w) < 256 → Numbered g) (λ s x h. h) (λ s n x h. h) f
 
 none-below : {xs ys : List ℕ} → length ys ≡ length xs → Same 0 xs ys
 none-below l = record { long = l; below = λ i h. absurd (omega (arith, h)) }

@@ -5,13 +5,13 @@ use Prim.Native.Nat.{ℕ, zero, suc, _*_, _≤_}
 use native.Mathlib.Omega.{arith}
 use lib.ListN.{length, getD, replicate}
 use Rattle.cursor.specs.Layout.{nodeWords, errorWords}
-use Rattle.cursor.specs.Rule.{world}
+use Rattle.cursor.specs.Rule.{world, begin}
 use Rattle.entry.specs.declared.Entry.the-variants as entries
 use Rattle.entry.specs.Check.{entryOf}
 use Rattle.exprs.specs.Levels.{under, program}
 use Rattle.blind.proofs.Sure.{Clean, program-sure}
 use Rattle.parser.specs.Blank.{upTo, blank}
-use Rattle.parser.specs.Parse.{within, begin, reading, parse}
+use Rattle.parser.specs.Parse.{within, reading, parse}
 
 -- The answer and every word of the buffers are a function of text, tokens, allowance and the buffers' lengths alone, for every sheet that
 -- passes the entry check: what the buffers held before does not matter.

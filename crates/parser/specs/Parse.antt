@@ -2,9 +2,8 @@
 use Prim.Native.Nat.{ℕ}
 use mathlib.Core.List.{List}
 use lib.ListN.{replicate}
-use Rattle.cursor.specs.declared.State.{State}
 use Rattle.cursor.specs.Checks.{liveRoom}
-use Rattle.cursor.specs.Rule.{world}
+use Rattle.cursor.specs.Rule.{world, begin}
 use Rattle.entry.specs.declared.Entry.{Entry}
 use Rattle.entry.specs.declared.Entry.the-variants as entries
 use Rattle.entry.specs.Check.{refusalNumber, entryOf}
@@ -21,10 +20,6 @@ depth = 64
 -- what a reading may use up: the allowance of readings, and all levels
 abbrev pub within : ℕ → Left
 within allowance = record { limits = record { allowance = allowance }; depth = depth }
-
--- where a reading begins: before the first token, with nothing read, built or logged
-abbrev pub begin : State
-begin = record { at = 0; prev = 0; reads = 0; nodes = 0; errors = 0; wanted = 0; live = 0 }
 
 -- a sheet that passed the entry check, read with this allowance into these buffers
 unfoldable pub reading : List ℕ → List ℕ → ℕ → List ℕ → List ℕ → List ℕ → Outcome

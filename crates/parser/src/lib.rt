@@ -11,6 +11,7 @@ ghost use Rattle.parser.specs.Demands.{Demands};
 ghost use Rattle.parser.specs.Parse.{parse};
 use clear::clear_bytes;
 use clear::clear_words;
+use cursor::BEGIN;
 use cursor::Built;
 use cursor::Failure;
 use cursor::Limits;
@@ -36,17 +37,6 @@ const LIVE: usize = 1024;
 
 // No number of the document: for an end that never comes.
 const NEVER: u8 = 255;
-
-// Where a reading begins.
-const BEGIN: State = State {
-    at: 0,
-    prev: 0,
-    reads: 0,
-    nodes: 0,
-    errors: 0,
-    wanted: 0,
-    live: 0,
-};
 
 // What a reading reports: its readings, and how many node records, error records and expected kinds it left.
 pub struct Reading {

@@ -6,7 +6,6 @@ use borrow.Author.Tests.{eq-eqb, ne-eqb, lt-ltb, le-ltb}
 use Rattle.kinds.specs.Number as kind
 use Rattle.cursor.specs.declared.State.{State}
 use Rattle.cursor.specs.declared.Kids.{Kids}
-use Rattle.cursor.specs.declared.Fault.{Fault}
 use Rattle.cursor.specs.Node as node
 use Rattle.cursor.specs.Sheet.{Sheet, rangeAt}
 use Rattle.cursor.specs.Rule.{World, Stop, fault, done, failed, more, stop, iterate}
@@ -63,9 +62,9 @@ module _ (e : Sheet) (kids : Kids) (s : State) (w : World) where
     end-plain a b = rw p (rw (eq-eqb _ _ a) (rw b))
 
     module _ (a : which ≡ 0 → ⊥) where
-      pub end-other : {f : Fault} → 1 < which → f ≡ unexpectedAt e s1 → importEnd e kids s w ≡ failed (fault s1 w1 f)
+      pub end-other : 1 < which → importEnd e kids s w ≡ failed (fault s1 w1 (unexpectedAt e s1))
       unfolding importEnd unexpected
-      end-other b u = rw p (rw (ne-eqb _ _ a) (rw (lt-ltb _ _ b) (rw u)))
+      end-other b = rw p (rw (ne-eqb _ _ a) (rw (lt-ltb _ _ b)))
 
       module _ (b : which ≤ 1) where
         pub end-spent : {x : Stop} → bump e s1 w1 ≡ failed x → importEnd e kids s w ≡ failed x
@@ -87,9 +86,9 @@ module _ (e : Sheet) (kids : Kids) (s : State) (w : World) where
   tail-full p = rw p
 
   module _ {which : ℕ} {s1 : State} {w1 : World} (p : pick e tailChain s w ≡ done s1 w1 which) where
-    pub tail-other : {f : Fault} → 1 < which → f ≡ unexpectedAt e s1 → importTail e kids s w ≡ failed (fault s1 w1 f)
+    pub tail-other : 1 < which → importTail e kids s w ≡ failed (fault s1 w1 (unexpectedAt e s1))
     unfolding importTail unexpected
-    tail-other b u = rw p (rw (lt-ltb _ _ b) (rw u))
+    tail-other b = rw p (rw (lt-ltb _ _ b))
 
     module _ (b : which ≤ 1) where
       pub tail-spent : {x : Stop} → bump e s1 w1 ≡ failed x → importTail e kids s w ≡ failed x

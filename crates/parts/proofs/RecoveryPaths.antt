@@ -2,8 +2,7 @@
 use mathlib.Core.Path.{_≡_, refl, ap, _∙_}
 use mathlib.Core.Bool.{true, false}
 use mathlib.Core.List.{[], _∷_}
-use Prim.Native.Nat.{ℕ, zero, suc, _<_, _≤_}
-use native.Mathlib.Omega.{arith}
+use Prim.Native.Nat.{ℕ, _<_, _≤_}
 use borrow.Author.Tests.{lt-ltb, le-ltb}
 use Rattle.kinds.specs.Number as kind
 use Rattle.cursor.specs.declared.State.{State}
@@ -11,25 +10,15 @@ use Rattle.cursor.specs.declared.Kids.{Kids}
 use Rattle.cursor.specs.declared.Fault.{Fault}
 use Rattle.cursor.specs.declared.Failure.{Failure}
 use Rattle.cursor.specs.Sheet.{Sheet}
-use Rattle.cursor.specs.Rule.{World, Stop, fault, refused, Out, done, failed, more, stop, iterate}
+use Rattle.cursor.specs.Rule.{World, Stop, fault, Out, done, failed, more, stop, iterate}
 use Rattle.cursor.specs.Tokens.{bump, eatEol, rewind}
 use Rattle.cursor.specs.Checks.{check, eat, expect, pick, unexpectedAt}
 use Rattle.cursor.specs.Records.{log}
 use Rattle.cursor.specs.Attempts.{unbuilt, recover}
 use Rattle.cursor.specs.Answers.{asStop}
+use Rattle.cursor.proofs.Failures.{an-error, a-refusal}
 use Rattle.types.specs.Items.{addSome}
 use Rattle.parts.specs.Recovery.{undo, skipTurn, skip, skipped, recovering, logHere, lineEnd, afterStmt}
-
--- a failure under number 0 is an error, any other a refusal
-an-error : (f : Failure) (w : World) → f .number ≤ 0 → asStop f w ≡ fault (f .state) w (f .fault)
-an-error f w h = let none : f .number ≡ 0 = omega (arith, h) in rw none
-
-a-refusal : (f : Failure) (w : World) → 0 < f .number → asStop f w ≡ refused f
-a-refusal f w = at (f .state) (f .number) (f .fault)
-  where
-    at : (s : State) (n : ℕ) (x : Fault) → 0 < n → asStop (record { state = s; number = n; fault = x }) w ≡ refused (record { state = s; number = n; fault = x })
-    at s zero x h = absurd (omega (arith, h))
-    at s (suc n) x h = refl
 
 -- a rule that failed by an error
 pub stopped : {A : Type 0} {o : Out A} (w : World) {f : Failure} → o ≡ failed (asStop f w) → f .number ≤ 0 → o ≡ failed (fault (f .state) w (f .fault))

@@ -11,7 +11,6 @@ use Rattle.kinds.specs.declared.types.TypeWord.the-variants as words
 use Rattle.kinds.specs.TypeWords.{typeWord, typeNumber}
 use Rattle.cursor.specs.declared.State.{State}
 use Rattle.cursor.specs.declared.Kids.{Kids}
-use Rattle.cursor.specs.declared.Fault.{Fault}
 use Rattle.cursor.specs.declared.Span.{Span}
 use Rattle.cursor.specs.declared.Ranged.{Ranged}
 use Rattle.cursor.specs.declared.Ranged.the-variants as ranged
@@ -101,9 +100,9 @@ module _ (e : Sheet) (s : State) (w : World) where
 
   -- no member stands here
   module _ (safe : Ranged) (x : Expr) {b : Bool} (p : b ≡ isEnded safe) where
-    pub member-lost : {f : Fault} → b ≡ true → f ≡ unexpectedAt e s → noMember e safe x s w ≡ failed (fault s w f)
+    pub member-lost : b ≡ true → noMember e safe x s w ≡ failed (fault s w (unexpectedAt e s))
     unfolding noMember unexpected
-    member-lost q u = rw (← p) (rw q (rw u))
+    member-lost q = rw (← p) (rw q)
 
     pub member-stop : b ≡ false → noMember e safe x s w ≡ done s w (stop x)
     unfolding noMember
@@ -237,14 +236,13 @@ module _ (e : Sheet) (s : State) (w : World) where
 
   -- behind `is`
   module _ (from : ℕ) (x : Expr) where
-    module _ {f : Fault} (u : f ≡ unexpectedAt e s) where
-      pub type-out : rangeAt (e .tokens) (s .at) ≡ ranged.Nowhere → typeCheck e from x s w ≡ failed (fault s w f)
-      unfolding typeCheck typeCheckAt unexpected
-      type-out p = rw (p, typeCheck, typeCheckAt) (rw u)
+    pub type-out : rangeAt (e .tokens) (s .at) ≡ ranged.Nowhere → typeCheck e from x s w ≡ failed (fault s w (unexpectedAt e s))
+    unfolding typeCheck typeCheckAt unexpected
+    type-out p = rw (p, typeCheck, typeCheckAt)
 
-      pub type-none : {k : ℕ} {r : Span} → rangeAt (e .tokens) (s .at) ≡ ranged.At r → k ≡ kindAt (e .tokens) (s .at) → checked.Unknown ≡ checkedType (e .text) k r → typeCheck e from x s w ≡ failed (fault s w f)
-      unfolding typeCheck typeCheckAt typeChecked unexpected
-      type-none p k q = rw (p, ← k, typeCheck, typeCheckAt) (rw (← q, typeChecked) (rw u))
+    pub type-none : {k : ℕ} {r : Span} → rangeAt (e .tokens) (s .at) ≡ ranged.At r → k ≡ kindAt (e .tokens) (s .at) → checked.Unknown ≡ checkedType (e .text) k r → typeCheck e from x s w ≡ failed (fault s w (unexpectedAt e s))
+    unfolding typeCheck typeCheckAt typeChecked unexpected
+    type-none p k q = rw (p, ← k, typeCheck, typeCheckAt) (rw (← q, typeChecked))
 
     module _ {k n : ℕ} {r : Span} (p : rangeAt (e .tokens) (s .at) ≡ ranged.At r) (h : k ≡ kindAt (e .tokens) (s .at)) (q : checked.Type n ≡ checkedType (e .text) k r) where
       pub type-spent : {y : Stop} → bump e s w ≡ failed y → typeCheck e from x s w ≡ failed y

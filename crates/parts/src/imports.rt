@@ -193,11 +193,7 @@ fn import_end(
         return Along::Done(s1, simple(kids, names, false));
     }
     if 1 < which {
-        return Along::Failed(Failure {
-            state: s1,
-            number: 0,
-            fault: unexpected(tokens, s1),
-        });
+        return Along::Failed(unexpected(tokens, s1));
     }
     let taken = bump(tokens, limits, s1);
     let s2 = match taken {
@@ -250,11 +246,7 @@ fn import_tail(
         Picked::Failed(f) => return Along::Failed(f),
     }
     if 1 < which {
-        return Along::Failed(Failure {
-            state: s1,
-            number: 0,
-            fault: unexpected(tokens, s1),
-        });
+        return Along::Failed(unexpected(tokens, s1));
     }
     let taken = bump(tokens, limits, s1);
     let s2 = match taken {

@@ -20,7 +20,7 @@ use cursor::checks::check;
 use cursor::checks::eat;
 use cursor::checks::expect;
 use cursor::checks::pick;
-use cursor::checks::unexpected;
+use cursor::checks::unexpected_at;
 use cursor::records::log_error;
 use cursor::tokens::bump;
 use cursor::tokens::eat_eol;
@@ -161,7 +161,7 @@ pub fn after_stmt(
     let over = check(tokens, live, s1, kinds::EOF);
     let s2 = match over {
         Test::Yes(t) => {
-            let logged = log_error(errors, wanted, live, t, unexpected(tokens, t));
+            let logged = log_error(errors, wanted, live, t, unexpected_at(tokens, t));
             return match logged {
                 Moved::On(u) => {
                     let all = add_some(nodes, kids, link);

@@ -119,11 +119,7 @@ pub fn no_member(tokens: &[u32], s: State, x: Expr, safe: Ranged) -> Chained
     ensures { λ r. ⌜ ((y : List ℕ) (l : Limits) (w : World) → asChained r w ≡ noMember (sheet y (now (tokens .entry)) l) safe x s w) ⌝ }
 {
     if is_ended(safe) {
-        return Chained::Failed(Failure {
-            state: s,
-            number: 0,
-            fault: unexpected(tokens, s),
-        });
+        return Chained::Failed(unexpected(tokens, s));
     }
     Chained::Stop(s, x)
 }
@@ -384,19 +380,11 @@ pub fn type_check(
     let here = current_range(tokens, s);
     let span = match here {
         Ranged::At(r) => r,
-        Ranged::Nowhere => return Chained::Failed(Failure {
-            state: s,
-            number: 0,
-            fault: unexpected(tokens, s),
-        }),
+        Ranged::Nowhere => return Chained::Failed(unexpected(tokens, s)),
     };
     let found = checked_type(text, current_kind(tokens, s), span);
     let Checked::Type(number) = found else {
-        return Chained::Failed(Failure {
-            state: s,
-            number: 0,
-            fault: unexpected(tokens, s),
-        });
+        return Chained::Failed(unexpected(tokens, s));
     };
     let taken = bump(tokens, limits, s);
     let s1 = match taken {

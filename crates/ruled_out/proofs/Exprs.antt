@@ -14,7 +14,7 @@ use Rattle.cursor.specs.declared.Built.the-variants as builds
 use Rattle.cursor.specs.Layout.{KIND, FIRST, cell}
 use Rattle.cursor.specs.Node as node
 use Rattle.cursor.specs.Sheet.{count, kindAt, rangeAt}
-use Rattle.cursor.specs.Rule.{refusal, turns, iterate}
+use Rattle.cursor.specs.Rule.{begin, refusal, turns, iterate}
 use Rattle.cursor.specs.Buffer.{put}
 use Rattle.cursor.specs.Tokens.{pastFrom, pastTrivia, bump, eatTrivia, eolTurn, eatEol}
 use Rattle.cursor.specs.Checks.{want, check, eat, expect, eatRange, pickFrom}
@@ -39,7 +39,7 @@ use Rattle.exprs.specs.Primary.{access, postfixTurn, primaryOf}
 use Rattle.exprs.proofs.exprs.exprs.Reads as exprs
 use Rattle.exprs.proofs.exprs.prec.Reads as prec
 use Rattle.exprs.proofs.program.program.Reads as whole
-use Rattle.ruled_out.proofs.Small.{lent, blank, limits, state, begin, row, apart, unlike, ended, word, answer, itself, sort}
+use Rattle.ruled_out.proofs.Small.{lent, blank, limits, state, row, apart, unlike, ended, word, answer, itself, sort}
 
 -- what is lent and handed to each of them at the start of a sheet: the tokens, room for five records, so many levels, and the rest
 abbrev begun : {A : Type 0} → List ℕ → ℕ → A → RefT (List ℕ) × (RefT (List ℕ) × (RefT (List ℕ) × (RefT (List ℕ) × (RefT (List ℕ) × (RefT (List ℕ) × (Left × (State × A)))))))

@@ -12,7 +12,7 @@ use Rattle.cursor.specs.declared.Built.the-variants as builds
 use Rattle.cursor.specs.Layout.{END, FIRST, NEXT, ONE, cell}
 use Rattle.cursor.specs.Node as node
 use Rattle.cursor.specs.Sheet.{count, kindAt, rangeAt}
-use Rattle.cursor.specs.Rule.{refusal, Next, more, stop, turns, iterate}
+use Rattle.cursor.specs.Rule.{begin, refusal, Next, more, stop, turns, iterate}
 use Rattle.cursor.specs.Buffer.{put}
 use Rattle.cursor.specs.Tokens.{pastFrom, pastTrivia, bump, eatTrivia, eolTurn, eatEol}
 use Rattle.cursor.specs.Checks.{want, check, eat, unexpected, expect, pickFrom}
@@ -36,7 +36,7 @@ use Rattle.types.proofs.items.after_item.Reads as after-item
 use Rattle.types.proofs.items.after_last.Reads as after-last
 use Rattle.types.proofs.patterns.span_of.Reads as span-of
 use Rattle.types.proofs.patterns.pattern.Reads as read-pattern
-use Rattle.ruled_out.proofs.Small.{lent, room, blank, limits, state, begin, span, row, apart, unlike, ended, left, word, answer}
+use Rattle.ruled_out.proofs.Small.{lent, room, blank, limits, state, span, row, apart, unlike, ended, left, word, answer}
 
 -- `a`, from byte 2 to 5; `null`; `)`; `,`
 abbrev name : List ℕ

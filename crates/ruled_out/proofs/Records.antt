@@ -10,7 +10,7 @@ use Rattle.cursor.specs.declared.Ranged.the-variants as ranged
 use Rattle.cursor.specs.declared.Built.the-variants as builds
 use Rattle.cursor.specs.Layout.{KIND, FIRST, NEXT, ONE, FLAGS, cell}
 use Rattle.cursor.specs.Node as node
-use Rattle.cursor.specs.Rule.{refusal, Next, more, stop}
+use Rattle.cursor.specs.Rule.{begin, refusal, Next, more, stop}
 use Rattle.cursor.specs.Buffer.{put}
 use Rattle.cursor.specs.Records.{write, append, add, reflag, flagged}
 use Rattle.types.specs.declared.items.Listed.the-variants as listeds
@@ -39,7 +39,7 @@ use Rattle.parts.proofs.records.loop_record.Reads as loop-record
 use Rattle.parts.proofs.records.round_record.Reads as round-record
 use Rattle.parts.proofs.records.call_record.Reads as call-record
 use Rattle.parts.proofs.records.member_record.Reads as member-record
-use Rattle.ruled_out.proofs.Small.{room, state, begin, span, row, apart, unlike, ended, word, answer, itself, sort}
+use Rattle.ruled_out.proofs.Small.{room, state, span, row, apart, unlike, ended, word, answer, itself, sort}
 
 -- a state with so many records
 abbrev built : ℕ → State

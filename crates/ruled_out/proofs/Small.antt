@@ -13,7 +13,7 @@ use Rattle.cursor.specs.declared.Span.{Span}
 use Rattle.cursor.specs.declared.Kids.{Kids}
 use Rattle.parts.specs.declared.values.Expr.{Expr}
 use Rattle.parts.specs.declared.values.Expr.the-variants as sorts
-use Rattle.cursor.specs.Rule.{fault, refused, Out, done, failed}
+use Rattle.cursor.specs.Rule.{begin, fault, refused, Out, done, failed}
 
 -- a slice or an array that is lent, by what it holds
 abbrev pub lent : List ℕ → RefT (List ℕ)
@@ -34,10 +34,6 @@ limits = record { allowance = 9 }
 -- a state: the place, the end before it, the readings, the node records, and the live list's length
 abbrev pub state : ℕ → ℕ → ℕ → ℕ → ℕ → State
 state at prev reads nodes live = record { at = at; prev = prev; reads = reads; nodes = nodes; errors = 0; wanted = 0; live = live }
-
--- before the first token, with nothing built
-abbrev pub begin : State
-begin = state 0 0 0 0 0
 
 abbrev pub span : ℕ → ℕ → Span
 span start end = record { start = start; end = end }

@@ -7,7 +7,6 @@ use Prim.Native.Nat.{ℕ}
 use lib.ListN.{getD, replicate}
 use Rattle.kinds.specs.Number as kind
 use Rattle.kinds.specs.Kinds.{isTrivia}
-use Rattle.cursor.proofs.Told.{erred}
 use Rattle.cursor.specs.declared.State.{State}
 use Rattle.cursor.specs.declared.Fault.{Fault}
 use Rattle.cursor.specs.declared.Kids.{Kids}
@@ -16,7 +15,7 @@ use Rattle.cursor.specs.declared.Moved.the-variants as moves
 use Rattle.cursor.specs.declared.Built.the-variants as builds
 use Rattle.cursor.specs.Layout.{FLAGS, cell}
 use Rattle.cursor.specs.Sheet.{count, kindAt, rangeAt}
-use Rattle.cursor.specs.Rule.{refusal, world, Next, more, stop, turns, iterate}
+use Rattle.cursor.specs.Rule.{refusal, world, begin, erred, Next, more, stop, turns, iterate}
 use Rattle.cursor.specs.Buffer.{put}
 use Rattle.cursor.specs.Tokens.{pastFrom, pastTrivia, bump, eatTrivia, eolTurn, eatEol, rewind}
 use Rattle.cursor.specs.Checks.{want, check, eat, unexpected, expect, pickFrom}
@@ -34,7 +33,7 @@ use Rattle.parts.proofs.recovery.recovered.Reads as recovered
 use Rattle.parts.proofs.recovery.after_stmt.Reads as after-stmt
 use Rattle.parts.proofs.effects.effect_stmt.Reads as effect-stmt
 use Rattle.parts.proofs.imports.import_stmt.Reads as import-stmt
-use Rattle.ruled_out.proofs.Small.{lent, room, blank, limits, state, begin, span, row, apart, unlike, ended, left, word, answer, itself}
+use Rattle.ruled_out.proofs.Small.{lent, room, blank, limits, state, span, row, apart, unlike, ended, left, word, answer, itself}
 
 -- attempts and recovery
 

@@ -9,7 +9,6 @@ use Rattle.kinds.specs.Number as kind
 use Rattle.kinds.specs.Kinds.{isTrivia}
 use Rattle.kinds.specs.Spelling.{bytes, equal}
 use Rattle.kinds.specs.TypeWords.{typeWord}
-use Rattle.cursor.proofs.Told.{erred}
 use Rattle.cursor.specs.declared.Ranged.{Ranged}
 use Rattle.cursor.specs.declared.Ranged.the-variants as ranged
 use Rattle.cursor.specs.declared.Test.the-variants as tests
@@ -17,7 +16,7 @@ use Rattle.cursor.specs.declared.Built.the-variants as builds
 use Rattle.cursor.specs.Layout.{KIND, END, FIRST, ONE}
 use Rattle.cursor.specs.Node as node
 use Rattle.cursor.specs.Sheet.{count, kindAt, rangeAt}
-use Rattle.cursor.specs.Rule.{refusal, world, turns, iterate}
+use Rattle.cursor.specs.Rule.{refusal, world, begin, erred, turns, iterate}
 use Rattle.cursor.specs.Buffer.{put}
 use Rattle.cursor.specs.Tokens.{pastFrom, pastTrivia, bump}
 use Rattle.cursor.specs.Checks.{want, check, eat, unexpected, expect, eatRange, pickFrom}
@@ -46,7 +45,7 @@ use Rattle.parts.proofs.steps.leaf.Reads as read-leaf
 use Rattle.parts.proofs.steps.loop_names.Reads as loop-names
 use Rattle.parts.proofs.steps.case_patterns.Reads as case-patterns
 use Rattle.parts.proofs.steps.type_check.Reads as type-check
-use Rattle.ruled_out.proofs.Small.{lent, room, blank, limits, state, begin, span, row, apart, unlike, ended, left, word, answer, itself}
+use Rattle.ruled_out.proofs.Small.{lent, room, blank, limits, state, span, row, apart, unlike, ended, left, word, answer, itself}
 
 -- a sheet of one token, of one byte, and one of two
 abbrev token : ℕ → List ℕ

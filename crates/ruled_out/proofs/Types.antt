@@ -14,7 +14,7 @@ use Rattle.cursor.specs.declared.Built.the-variants as builds
 use Rattle.cursor.specs.Layout.{KIND, FIRST, FLAGS, cell}
 use Rattle.cursor.specs.Node as node
 use Rattle.cursor.specs.Sheet.{count, kindAt, rangeAt}
-use Rattle.cursor.specs.Rule.{refusal, turns, iterate}
+use Rattle.cursor.specs.Rule.{begin, refusal, turns, iterate}
 use Rattle.cursor.specs.Buffer.{put}
 use Rattle.cursor.specs.Tokens.{pastFrom, pastTrivia, bump, eatTrivia, eolTurn, eatEol}
 use Rattle.cursor.specs.Checks.{want, check, eat, unexpected, expect, pickFrom}
@@ -30,7 +30,7 @@ use Rattle.types.proofs.types.type_items.Reads as type-items
 use Rattle.types.proofs.types.type_atom.Reads as type-atom
 use Rattle.types.proofs.types.params.Reads as read-params
 use Rattle.types.proofs.types.closure_params.Reads as closure-params
-use Rattle.ruled_out.proofs.Small.{lent, room, blank, limits, state, begin, row, apart, unlike, ended, left, word, answer, itself}
+use Rattle.ruled_out.proofs.Small.{lent, room, blank, limits, state, row, apart, unlike, ended, left, word, answer, itself}
 
 -- what is lent and handed to each of them at the start of a sheet: the tokens, so many levels, and the rest
 abbrev begun : {A : Type 0} → List ℕ → ℕ → A → RefT (List ℕ) × (RefT (List ℕ) × (RefT (List ℕ) × (RefT (List ℕ) × (Limits × (State × (ℕ × A))))))

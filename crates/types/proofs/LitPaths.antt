@@ -12,7 +12,6 @@ use Rattle.ints.specs.declared.IntFault.{IntFault}
 use Rattle.ints.specs.declared.IntAnswer.the-variants as ints
 use Rattle.ints.specs.Answer.{intOf, faultNumber}
 use Rattle.cursor.specs.declared.State.{State}
-use Rattle.cursor.specs.declared.Fault.{Fault}
 use Rattle.cursor.specs.declared.Label.{Label}
 use Rattle.cursor.specs.declared.Span.{Span}
 use Rattle.cursor.specs.declared.Ranged.the-variants as ranged
@@ -48,18 +47,13 @@ module _ (text : List ℕ) (r : Span) where
   int-fault p q = rw (← p, q)
 
 module _ (e : Sheet) (s : State) (w : World) where
-  module _ {f : Fault} (u : f ≡ unexpectedAt e s) where
-    pub lit-out : rangeAt (e .tokens) (s .at) ≡ ranged.Nowhere → lit e s w ≡ failed (fault s w f)
-    unfolding lit litAt unexpected
-    lit-out p = rw (p, lit, litAt) (rw u)
+  pub lit-out : rangeAt (e .tokens) (s .at) ≡ ranged.Nowhere → lit e s w ≡ failed (fault s w (unexpectedAt e s))
+  unfolding lit litAt unexpected
+  lit-out p = rw (p, lit, litAt)
 
-    pub lit-none : {k : ℕ} {r : Span} → rangeAt (e .tokens) (s .at) ≡ ranged.At r → k ≡ kindAt (e .tokens) (s .at) → literals.Nothing ≡ literal (e .text) k r → lit e s w ≡ failed (fault s w f)
-    unfolding lit litAt litFrom unexpected
-    lit-none p k q = rw (p, ← k, lit, litAt) (rw (← q, litFrom) (rw u))
-
-    pub ident-out : rangeAt (e .tokens) (s .at) ≡ ranged.Nowhere → ident e s w ≡ failed (fault s w f)
-    unfolding ident identAt unexpected
-    ident-out p = rw (p, ident, identAt) (rw u)
+  pub ident-out : rangeAt (e .tokens) (s .at) ≡ ranged.Nowhere → ident e s w ≡ failed (fault s w (unexpectedAt e s))
+  unfolding ident identAt unexpected
+  ident-out p = rw (p, ident, identAt)
 
   module _ {r : Span} (p : rangeAt (e .tokens) (s .at) ≡ ranged.At r) where
     pub ident-failed : {x : Stop} → expect e kind.Ident s w ≡ failed x → ident e s w ≡ failed x
@@ -71,6 +65,10 @@ module _ (e : Sheet) (s : State) (w : World) where
     ident-on q = rw (p, ident, identAt) (rw q)
 
     module _ {k : ℕ} (h : k ≡ kindAt (e .tokens) (s .at)) where
+      pub lit-none : literals.Nothing ≡ literal (e .text) k r → lit e s w ≡ failed (fault s w (unexpectedAt e s))
+      unfolding lit litAt litFrom unexpected
+      lit-none q = rw (p, ← h, lit, litAt) (rw (← q, litFrom))
+
       pub lit-faulty : {n : ℕ} → literals.Faulty n ≡ literal (e .text) k r → lit e s w ≡ failed (fault s w (record { class = 1; found = n; span = r; listed = false }))
       unfolding lit litAt litFrom
       lit-faulty q = rw (p, ← h, lit, litAt) (rw (← q, litFrom))

@@ -7,7 +7,6 @@ ghost use Rattle.cursor.specs.Rule.{world};
 ghost use Rattle.cursor.specs.Answers.{asBuilt};
 ghost use Rattle.types.specs.Lits.{bitsOf, leafLabel, intLiteral, literal, lit, ident};
 use cursor::Built;
-use cursor::Failure;
 use cursor::Fault;
 use cursor::Label;
 use cursor::Limits;
@@ -15,6 +14,7 @@ use cursor::Moved;
 use cursor::Ranged;
 use cursor::Span;
 use cursor::State;
+use cursor::checks::erred;
 use cursor::checks::expect;
 use cursor::checks::unexpected;
 use cursor::nodes;
@@ -121,11 +121,7 @@ pub fn lit(text: &[u8], tokens: &[u32], nodes: &mut [u32], limits: Limits, s: St
     let here = current_range(tokens, s);
     let span = match here {
         Ranged::At(r) => r,
-        Ranged::Nowhere => return Built::Failed(Failure {
-            state: s,
-            number: 0,
-            fault: unexpected(tokens, s),
-        }),
+        Ranged::Nowhere => return Built::Failed(unexpected(tokens, s)),
     };
     let found = literal_of(text, current_kind(tokens, s), span);
     let label = match found {
@@ -137,17 +133,9 @@ pub fn lit(text: &[u8], tokens: &[u32], nodes: &mut [u32], limits: Limits, s: St
                 span,
                 listed: false,
             };
-            return Built::Failed(Failure {
-                state: s,
-                number: 0,
-                fault,
-            });
+            return Built::Failed(erred(s, fault));
         }
-        Literal::Nothing => return Built::Failed(Failure {
-            state: s,
-            number: 0,
-            fault: unexpected(tokens, s),
-        }),
+        Literal::Nothing => return Built::Failed(unexpected(tokens, s)),
     };
     let taken = bump(tokens, limits, s);
     let s1 = match taken {
@@ -170,11 +158,7 @@ pub fn ident(
     let here = current_range(tokens, s);
     let span = match here {
         Ranged::At(r) => r,
-        Ranged::Nowhere => return Built::Failed(Failure {
-            state: s,
-            number: 0,
-            fault: unexpected(tokens, s),
-        }),
+        Ranged::Nowhere => return Built::Failed(unexpected(tokens, s)),
     };
     let named = expect(tokens, live, limits, s, kinds::IDENT);
     let s1 = match named {

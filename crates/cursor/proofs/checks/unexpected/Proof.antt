@@ -1,20 +1,15 @@
-use Rattle.cursor.proofs.CheckPaths as paths
-use mathlib.Core.Path.{sym, _∙_}
+-- `unexpected` meets its contract: the error of what stands here, where it stands.
+use Rattle.cursor.specs.Rule.{erred}
+use mathlib.Core.Path.{ap, _∙_}
 use Rattle.cursor.proofs.checks.unexpected.Statement.{statement}
 use Rattle.cursor.proofs.checks.unexpected.Tie as tie
 
 returns : tie.Need-returns
-returns c = let c₁ = c .before in let c₂ = c₁ .before .before in let c₃ = c₂ .before in λ x l. sym (paths.unexpected-is _ _ (c₃ .current-kind .ensures) (sym (c₂ .current-range .ensures) ∙ c₁ .here .given .1))
-
-returns-2 : tie.Need-returns-2
-returns-2 c = λ x l. sym (paths.unexpected-is _ _ (c .before .before .before .current-kind .ensures) (sym (c .before .before .current-range .ensures) ∙ c .enum-told .given .1))
+returns c = λ x l. c .erred .ensures ∙ ap (erred _) (c .before .unexpected-at .ensures x l)
 
 pub unexpected-spec : {M : Type 1} → statement M
 unexpected-spec =
     tie.close (tie.spec
     (λ c κs. tt)
     (λ c κs. tt)
-    (λ c. c .match .keys1)
-    (λ c. c .match .keys2)
-    returns
-    returns-2)
+    returns)

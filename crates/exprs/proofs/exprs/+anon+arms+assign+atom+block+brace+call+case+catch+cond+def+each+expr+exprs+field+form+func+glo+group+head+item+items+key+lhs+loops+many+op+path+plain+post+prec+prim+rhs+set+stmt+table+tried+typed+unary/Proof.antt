@@ -13,6 +13,7 @@ use Rattle.exprs.proofs.Takes as takes
 use Rattle.exprs.proofs.BodyTakes as btakes
 use Rattle.cursor.proofs.Loops as turning
 use Rattle.cursor.proofs.CheckPaths.{via}
+use Rattle.cursor.proofs.Failures.{erring}
 use Rattle.cursor.specs.Sheet.{sheet, count}
 use Rattle.cursor.specs.Rule.{world, iterate, bind}
 use Rattle.cursor.specs.Answers.{asMoved, asTest, asEaten, asPicked, asBuilt}
@@ -158,6 +159,7 @@ use Rattle.exprs.proofs.exprs.+anon+arms+assign+atom+block+brace+call+c
 use Rattle.cursor.proofs.checks.check.Reads as check-reads
 use Rattle.cursor.proofs.checks.eat.Reads as eat-reads
 use Rattle.cursor.proofs.checks.eat_range.Reads as eat-range-reads
+use Rattle.cursor.proofs.checks.erred.Reads as erred-reads
 use Rattle.cursor.proofs.checks.expect.Reads as expect-reads
 use Rattle.cursor.proofs.checks.pick.Reads as pick-reads
 use Rattle.cursor.proofs.checks.unexpected.Reads as unexpected-reads
@@ -11990,6 +11992,8 @@ lhs-loop-holds : (t : ℕ) → lhs-lts.Need-loop-holds (
   to-assign-left-reads.Learnt,
   alone-reads.Asked,
   alone-reads.Learnt,
+  erred-reads.Asked,
+  erred-reads.Learnt,
   add-reads.Asked,
   add-reads.Learnt,
 ) (lhs-at t) lhs.Post lhs-Inv-loop lhs-μ-loop
@@ -12004,6 +12008,8 @@ lhs-eat-range-requires : (t : ℕ) → lhs-lts.Need-eat-range-requires (
   to-assign-left-reads.Learnt,
   alone-reads.Asked,
   alone-reads.Learnt,
+  erred-reads.Asked,
+  erred-reads.Learnt,
   add-reads.Asked,
   add-reads.Learnt,
 ) (lhs-at t) lhs.Post lhs-Inv-loop lhs-μ-loop
@@ -12018,6 +12024,8 @@ lhs-enum-known-comma : (t : ℕ) → lhs-lts.Need-enum-known-comma (
   to-assign-left-reads.Learnt,
   alone-reads.Asked,
   alone-reads.Learnt,
+  erred-reads.Asked,
+  erred-reads.Learnt,
   add-reads.Asked,
   add-reads.Learnt,
 ) (lhs-at t) lhs.Post lhs-Inv-loop lhs-μ-loop
@@ -12032,6 +12040,8 @@ lhs-enum-known-comma-2 : (t : ℕ) → lhs-lts.Need-enum-known-comma-2 (
   to-assign-left-reads.Learnt,
   alone-reads.Asked,
   alone-reads.Learnt,
+  erred-reads.Asked,
+  erred-reads.Learnt,
   add-reads.Asked,
   add-reads.Learnt,
 ) (lhs-at t) lhs.Post lhs-Inv-loop lhs-μ-loop
@@ -12046,6 +12056,8 @@ lhs-same-length : (t : ℕ) → lhs-lts.Need-same-length (
   to-assign-left-reads.Learnt,
   alone-reads.Asked,
   alone-reads.Learnt,
+  erred-reads.Asked,
+  erred-reads.Learnt,
   add-reads.Asked,
   add-reads.Learnt,
 ) (lhs-at t) lhs.Post lhs-Inv-loop lhs-μ-loop
@@ -12060,6 +12072,8 @@ lhs-same-length-2 : (t : ℕ) → lhs-lts.Need-same-length-2 (
   to-assign-left-reads.Learnt,
   alone-reads.Asked,
   alone-reads.Learnt,
+  erred-reads.Asked,
+  erred-reads.Learnt,
   add-reads.Asked,
   add-reads.Learnt,
 ) (lhs-at t) lhs.Post lhs-Inv-loop lhs-μ-loop
@@ -12074,6 +12088,8 @@ lhs-same-length-3 : (t : ℕ) → lhs-lts.Need-same-length-3 (
   to-assign-left-reads.Learnt,
   alone-reads.Asked,
   alone-reads.Learnt,
+  erred-reads.Asked,
+  erred-reads.Learnt,
   add-reads.Asked,
   add-reads.Learnt,
 ) (lhs-at t) lhs.Post lhs-Inv-loop lhs-μ-loop
@@ -12088,6 +12104,8 @@ lhs-returns : (t : ℕ) → lhs-lts.Need-returns (
   to-assign-left-reads.Learnt,
   alone-reads.Asked,
   alone-reads.Learnt,
+  erred-reads.Asked,
+  erred-reads.Learnt,
   add-reads.Asked,
   add-reads.Learnt,
 ) (lhs-at t) lhs.Post lhs-Inv-loop lhs-μ-loop
@@ -12102,6 +12120,8 @@ lhs-enum-known-comma-3 : (t : ℕ) → lhs-lts.Need-enum-known-comma-3 (
   to-assign-left-reads.Learnt,
   alone-reads.Asked,
   alone-reads.Learnt,
+  erred-reads.Asked,
+  erred-reads.Learnt,
   add-reads.Asked,
   add-reads.Learnt,
 ) (lhs-at t) lhs.Post lhs-Inv-loop lhs-μ-loop
@@ -12116,6 +12136,8 @@ lhs-same-length-4 : (t : ℕ) → lhs-lts.Need-same-length-4 (
   to-assign-left-reads.Learnt,
   alone-reads.Asked,
   alone-reads.Learnt,
+  erred-reads.Asked,
+  erred-reads.Learnt,
   add-reads.Asked,
   add-reads.Learnt,
 ) (lhs-at t) lhs.Post lhs-Inv-loop lhs-μ-loop
@@ -12130,6 +12152,8 @@ lhs-same-length-5 : (t : ℕ) → lhs-lts.Need-same-length-5 (
   to-assign-left-reads.Learnt,
   alone-reads.Asked,
   alone-reads.Learnt,
+  erred-reads.Asked,
+  erred-reads.Learnt,
   add-reads.Asked,
   add-reads.Learnt,
 ) (lhs-at t) lhs.Post lhs-Inv-loop lhs-μ-loop
@@ -12144,6 +12168,8 @@ lhs-same-length-6 : (t : ℕ) → lhs-lts.Need-same-length-6 (
   to-assign-left-reads.Learnt,
   alone-reads.Asked,
   alone-reads.Learnt,
+  erred-reads.Asked,
+  erred-reads.Learnt,
   add-reads.Asked,
   add-reads.Learnt,
 ) (lhs-at t) lhs.Post lhs-Inv-loop lhs-μ-loop
@@ -12158,6 +12184,8 @@ lhs-returns-2 : (t : ℕ) → lhs-lts.Need-returns-2 (
   to-assign-left-reads.Learnt,
   alone-reads.Asked,
   alone-reads.Learnt,
+  erred-reads.Asked,
+  erred-reads.Learnt,
   add-reads.Asked,
   add-reads.Learnt,
 ) (lhs-at t) lhs.Post lhs-Inv-loop lhs-μ-loop
@@ -12172,6 +12200,8 @@ lhs-prec-requires : (t : ℕ) → lhs-lts.Need-prec-requires (
   to-assign-left-reads.Learnt,
   alone-reads.Asked,
   alone-reads.Learnt,
+  erred-reads.Asked,
+  erred-reads.Learnt,
   add-reads.Asked,
   add-reads.Learnt,
 ) (lhs-at t) lhs.Post lhs-Inv-loop lhs-μ-loop
@@ -12186,6 +12216,8 @@ lhs-enum-known-read : (t : ℕ) → lhs-lts.Need-enum-known-read (
   to-assign-left-reads.Learnt,
   alone-reads.Asked,
   alone-reads.Learnt,
+  erred-reads.Asked,
+  erred-reads.Learnt,
   add-reads.Asked,
   add-reads.Learnt,
 ) (lhs-at t) lhs.Post lhs-Inv-loop lhs-μ-loop
@@ -12200,6 +12232,8 @@ lhs-enum-known-read-2 : (t : ℕ) → lhs-lts.Need-enum-known-read-2 (
   to-assign-left-reads.Learnt,
   alone-reads.Asked,
   alone-reads.Learnt,
+  erred-reads.Asked,
+  erred-reads.Learnt,
   add-reads.Asked,
   add-reads.Learnt,
 ) (lhs-at t) lhs.Post lhs-Inv-loop lhs-μ-loop
@@ -12214,6 +12248,8 @@ lhs-same-length-7 : (t : ℕ) → lhs-lts.Need-same-length-7 (
   to-assign-left-reads.Learnt,
   alone-reads.Asked,
   alone-reads.Learnt,
+  erred-reads.Asked,
+  erred-reads.Learnt,
   add-reads.Asked,
   add-reads.Learnt,
 ) (lhs-at t) lhs.Post lhs-Inv-loop lhs-μ-loop
@@ -12228,6 +12264,8 @@ lhs-same-length-8 : (t : ℕ) → lhs-lts.Need-same-length-8 (
   to-assign-left-reads.Learnt,
   alone-reads.Asked,
   alone-reads.Learnt,
+  erred-reads.Asked,
+  erred-reads.Learnt,
   add-reads.Asked,
   add-reads.Learnt,
 ) (lhs-at t) lhs.Post lhs-Inv-loop lhs-μ-loop
@@ -12242,6 +12280,8 @@ lhs-same-length-9 : (t : ℕ) → lhs-lts.Need-same-length-9 (
   to-assign-left-reads.Learnt,
   alone-reads.Asked,
   alone-reads.Learnt,
+  erred-reads.Asked,
+  erred-reads.Learnt,
   add-reads.Asked,
   add-reads.Learnt,
 ) (lhs-at t) lhs.Post lhs-Inv-loop lhs-μ-loop
@@ -12256,6 +12296,8 @@ lhs-returns-3 : (t : ℕ) → lhs-lts.Need-returns-3 (
   to-assign-left-reads.Learnt,
   alone-reads.Asked,
   alone-reads.Learnt,
+  erred-reads.Asked,
+  erred-reads.Learnt,
   add-reads.Asked,
   add-reads.Learnt,
 ) (lhs-at t) lhs.Post lhs-Inv-loop lhs-μ-loop
@@ -12270,6 +12312,8 @@ lhs-to-assign-left-requires : (t : ℕ) → lhs-lts.Need-to-assign-left-requires
   to-assign-left-reads.Learnt,
   alone-reads.Asked,
   alone-reads.Learnt,
+  erred-reads.Asked,
+  erred-reads.Learnt,
   add-reads.Asked,
   add-reads.Learnt,
 ) (lhs-at t) lhs.Post lhs-Inv-loop lhs-μ-loop
@@ -12284,6 +12328,8 @@ lhs-enum-known-to : (t : ℕ) → lhs-lts.Need-enum-known-to (
   to-assign-left-reads.Learnt,
   alone-reads.Asked,
   alone-reads.Learnt,
+  erred-reads.Asked,
+  erred-reads.Learnt,
   add-reads.Asked,
   add-reads.Learnt,
 ) (lhs-at t) lhs.Post lhs-Inv-loop lhs-μ-loop
@@ -12298,6 +12344,8 @@ lhs-enum-told : (t : ℕ) → lhs-lts.Need-enum-told (
   to-assign-left-reads.Learnt,
   alone-reads.Asked,
   alone-reads.Learnt,
+  erred-reads.Asked,
+  erred-reads.Learnt,
   add-reads.Asked,
   add-reads.Learnt,
 ) (lhs-at t) lhs.Post lhs-Inv-loop lhs-μ-loop
@@ -12312,10 +12360,28 @@ lhs-alone-requires : (t : ℕ) → lhs-lts.Need-alone-requires (
   to-assign-left-reads.Learnt,
   alone-reads.Asked,
   alone-reads.Learnt,
+  erred-reads.Asked,
+  erred-reads.Learnt,
   add-reads.Asked,
   add-reads.Learnt,
 ) (lhs-at t) lhs.Post lhs-Inv-loop lhs-μ-loop
 lhs-alone-requires t c κs = tt
+
+lhs-erred-requires : (t : ℕ) → lhs-lts.Need-erred-requires (
+  eat-range-reads.Asked,
+  eat-range-reads.Learnt,
+  prec-below t,
+  prec.Post,
+  to-assign-left-reads.Asked,
+  to-assign-left-reads.Learnt,
+  alone-reads.Asked,
+  alone-reads.Learnt,
+  erred-reads.Asked,
+  erred-reads.Learnt,
+  add-reads.Asked,
+  add-reads.Learnt,
+) (lhs-at t) lhs.Post lhs-Inv-loop lhs-μ-loop
+lhs-erred-requires t c κs = tt
 
 lhs-same-length-10 : (t : ℕ) → lhs-lts.Need-same-length-10 (
   eat-range-reads.Asked,
@@ -12326,10 +12392,12 @@ lhs-same-length-10 : (t : ℕ) → lhs-lts.Need-same-length-10 (
   to-assign-left-reads.Learnt,
   alone-reads.Asked,
   alone-reads.Learnt,
+  erred-reads.Asked,
+  erred-reads.Learnt,
   add-reads.Asked,
   add-reads.Learnt,
 ) (lhs-at t) lhs.Post lhs-Inv-loop lhs-μ-loop
-lhs-same-length-10 t c = let c₁ = c .before .before .before .before .before .before .before .before .before .before .before .before .before in let c₂ = c₁ .before .before .before .before .before .before .before .before .before .before in (c₁ .prec .kept .1 .1 .0) ∙ (c₂ .loop .inv .1)
+lhs-same-length-10 t c = let c₁ = c .before .before .before .before .before .before .before .before .before .before .before .before .before .before in let c₂ = c₁ .before .before .before .before .before .before .before .before .before .before in (c₁ .prec .kept .1 .1 .0) ∙ (c₂ .loop .inv .1)
 
 lhs-same-length-11 : (t : ℕ) → lhs-lts.Need-same-length-11 (
   eat-range-reads.Asked,
@@ -12340,10 +12408,12 @@ lhs-same-length-11 : (t : ℕ) → lhs-lts.Need-same-length-11 (
   to-assign-left-reads.Learnt,
   alone-reads.Asked,
   alone-reads.Learnt,
+  erred-reads.Asked,
+  erred-reads.Learnt,
   add-reads.Asked,
   add-reads.Learnt,
 ) (lhs-at t) lhs.Post lhs-Inv-loop lhs-μ-loop
-lhs-same-length-11 t c = let c₁ = c .before .before .before .before .before .before .before .before .before .before .before .before .before in let c₂ = c₁ .before .before .before .before .before .before .before .before .before .before in (c₁ .prec .kept .1 .1 .1 .0) ∙ (c₂ .loop .inv .2)
+lhs-same-length-11 t c = let c₁ = c .before .before .before .before .before .before .before .before .before .before .before .before .before .before in let c₂ = c₁ .before .before .before .before .before .before .before .before .before .before in (c₁ .prec .kept .1 .1 .1 .0) ∙ (c₂ .loop .inv .2)
 
 lhs-same-length-12 : (t : ℕ) → lhs-lts.Need-same-length-12 (
   eat-range-reads.Asked,
@@ -12354,10 +12424,12 @@ lhs-same-length-12 : (t : ℕ) → lhs-lts.Need-same-length-12 (
   to-assign-left-reads.Learnt,
   alone-reads.Asked,
   alone-reads.Learnt,
+  erred-reads.Asked,
+  erred-reads.Learnt,
   add-reads.Asked,
   add-reads.Learnt,
 ) (lhs-at t) lhs.Post lhs-Inv-loop lhs-μ-loop
-lhs-same-length-12 t c = let c₁ = c .before .before .before .before .before .before .before .before .before .before .before .before .before in let c₂ = c₁ .before .before .before .before .before .before .before .before .before .before in (c₁ .prec .kept .1 .1 .1 .1 .0) ∙ (c₂ .loop .inv .3)
+lhs-same-length-12 t c = let c₁ = c .before .before .before .before .before .before .before .before .before .before .before .before .before .before in let c₂ = c₁ .before .before .before .before .before .before .before .before .before .before in (c₁ .prec .kept .1 .1 .1 .1 .0) ∙ (c₂ .loop .inv .3)
 
 lhs-returns-4 : (t : ℕ) → lhs-lts.Need-returns-4 (
   eat-range-reads.Asked,
@@ -12368,10 +12440,12 @@ lhs-returns-4 : (t : ℕ) → lhs-lts.Need-returns-4 (
   to-assign-left-reads.Learnt,
   alone-reads.Asked,
   alone-reads.Learnt,
+  erred-reads.Asked,
+  erred-reads.Learnt,
   add-reads.Asked,
   add-reads.Learnt,
 ) (lhs-at t) lhs.Post lhs-Inv-loop lhs-μ-loop
-lhs-returns-4 t c = let c₁ = c .before in let c₂ = c₁ .before .before in let c₃ = c₂ .before .before in let c₄ = c₃ .before .before .before .before .before .before .before .before in let c₅ = c₄ .before .before .before .before .before .before in let c₆ = c₅ .before .before in let c₇ = c₆ .before .before in sym (st.lefts-is _ _ _ _ ∙ c₇ .loop .inv .0 ∙ turning.loop-failed _ _ (st.left-wrong _ _ _ _ (via asEaten (c₆ .eat-range .ensures _ _ _ _) (c₅ .comma .given .1)) (via asParsed (c₄ .prec .ensures) (c₃ .read .given .1)) (sym (c₁ .enum-told .given .1) ∙ c₂ .to-assign-left .ensures) (c .alone .ensures)))
+lhs-returns-4 t c = let c₁ = c .before in let c₂ = c₁ .before in let c₃ = c₂ .before .before in let c₄ = c₃ .before .before in let c₅ = c₄ .before .before .before .before .before .before .before .before in let c₆ = c₅ .before .before .before .before .before .before in let c₇ = c₆ .before .before in let c₈ = c₇ .before .before in erring (c .erred .ensures) (st.lefts-is _ _ _ _ ∙ c₈ .loop .inv .0 ∙ turning.loop-failed _ _ (st.left-wrong _ _ _ _ (via asEaten (c₇ .eat-range .ensures _ _ _ _) (c₆ .comma .given .1)) (via asParsed (c₅ .prec .ensures) (c₄ .read .given .1)) (sym (c₂ .enum-told .given .1) ∙ c₃ .to-assign-left .ensures) (c₁ .alone .ensures)))
 
 lhs-add-requires : (t : ℕ) → lhs-lts.Need-add-requires (
   eat-range-reads.Asked,
@@ -12382,6 +12456,8 @@ lhs-add-requires : (t : ℕ) → lhs-lts.Need-add-requires (
   to-assign-left-reads.Learnt,
   alone-reads.Asked,
   alone-reads.Learnt,
+  erred-reads.Asked,
+  erred-reads.Learnt,
   add-reads.Asked,
   add-reads.Learnt,
 ) (lhs-at t) lhs.Post lhs-Inv-loop lhs-μ-loop
@@ -12396,6 +12472,8 @@ lhs-loop-less : (t : ℕ) → lhs-lts.Need-loop-less (
   to-assign-left-reads.Learnt,
   alone-reads.Asked,
   alone-reads.Learnt,
+  erred-reads.Asked,
+  erred-reads.Learnt,
   add-reads.Asked,
   add-reads.Learnt,
 ) (lhs-at t) lhs.Post lhs-Inv-loop lhs-μ-loop
@@ -12410,6 +12488,8 @@ lhs-loop-again : (t : ℕ) → lhs-lts.Need-loop-again (
   to-assign-left-reads.Learnt,
   alone-reads.Asked,
   alone-reads.Learnt,
+  erred-reads.Asked,
+  erred-reads.Learnt,
   add-reads.Asked,
   add-reads.Learnt,
 ) (lhs-at t) lhs.Post lhs-Inv-loop lhs-μ-loop
@@ -12945,7 +13025,7 @@ many-returns : (t : ℕ) → many-lts.Need-returns (
   row-record-reads.Asked,
   row-record-reads.Learnt,
 ) (many-at t) many.Post
-many-returns t c = sym (st.multi-nothing _ _ _ _ _ (sym (c .before .enum-told .given .1) ∙ c .before .before .before .to-assign-left .ensures) (c .unexpected .ensures _ _))
+many-returns t c = erring (c .unexpected .ensures _ _) (st.multi-nothing _ _ _ _ _ (sym (c .before .enum-told .given .1) ∙ c .before .before .before .to-assign-left .ensures))
 
 many-lhs-requires : (t : ℕ) → many-lts.Need-lhs-requires (
   to-assign-left-reads.Asked,
@@ -16833,7 +16913,7 @@ set-returns : (t : ℕ) → set-lts.Need-returns (
   operator-of-reads.Asked,
   operator-of-reads.Learnt,
 ) (set-at t) set.Post
-set-returns t c = sym (st.set-nothing _ _ _ _ _ _ (sym (c .before .enum-told .given .1) ∙ c .before .before .before .to-assign-left .ensures) (c .unexpected .ensures _ _))
+set-returns t c = erring (c .unexpected .ensures _ _) (st.set-nothing _ _ _ _ _ _ (sym (c .before .enum-told .given .1) ∙ c .before .before .before .to-assign-left .ensures))
 
 set-bump-requires : (t : ℕ) → set-lts.Need-bump-requires (
   to-assign-left-reads.Asked,
@@ -18352,6 +18432,8 @@ tried-current-range-requires : (t : ℕ) → tried-lts.Need-current-range-requir
   span-of-reads.Learnt,
   alone-reads.Asked,
   alone-reads.Learnt,
+  erred-reads.Asked,
+  erred-reads.Learnt,
   catch-below t,
   catch.Post,
   add-reads.Asked,
@@ -18374,6 +18456,8 @@ tried-bump-requires : (t : ℕ) → tried-lts.Need-bump-requires (
   span-of-reads.Learnt,
   alone-reads.Asked,
   alone-reads.Learnt,
+  erred-reads.Asked,
+  erred-reads.Learnt,
   catch-below t,
   catch.Post,
   add-reads.Asked,
@@ -18396,6 +18480,8 @@ tried-enum-known-taken : (t : ℕ) → tried-lts.Need-enum-known-taken (
   span-of-reads.Learnt,
   alone-reads.Asked,
   alone-reads.Learnt,
+  erred-reads.Asked,
+  erred-reads.Learnt,
   catch-below t,
   catch.Post,
   add-reads.Asked,
@@ -18418,6 +18504,8 @@ tried-enum-known-taken-2 : (t : ℕ) → tried-lts.Need-enum-known-taken-2 (
   span-of-reads.Learnt,
   alone-reads.Asked,
   alone-reads.Learnt,
+  erred-reads.Asked,
+  erred-reads.Learnt,
   catch-below t,
   catch.Post,
   add-reads.Asked,
@@ -18440,6 +18528,8 @@ tried-returns : (t : ℕ) → tried-lts.Need-returns (
   span-of-reads.Learnt,
   alone-reads.Asked,
   alone-reads.Learnt,
+  erred-reads.Asked,
+  erred-reads.Learnt,
   catch-below t,
   catch.Post,
   add-reads.Asked,
@@ -18462,6 +18552,8 @@ tried-prim-requires : (t : ℕ) → tried-lts.Need-prim-requires (
   span-of-reads.Learnt,
   alone-reads.Asked,
   alone-reads.Learnt,
+  erred-reads.Asked,
+  erred-reads.Learnt,
   catch-below t,
   catch.Post,
   add-reads.Asked,
@@ -18484,6 +18576,8 @@ tried-enum-known-read : (t : ℕ) → tried-lts.Need-enum-known-read (
   span-of-reads.Learnt,
   alone-reads.Asked,
   alone-reads.Learnt,
+  erred-reads.Asked,
+  erred-reads.Learnt,
   catch-below t,
   catch.Post,
   add-reads.Asked,
@@ -18506,6 +18600,8 @@ tried-enum-known-read-2 : (t : ℕ) → tried-lts.Need-enum-known-read-2 (
   span-of-reads.Learnt,
   alone-reads.Asked,
   alone-reads.Learnt,
+  erred-reads.Asked,
+  erred-reads.Learnt,
   catch-below t,
   catch.Post,
   add-reads.Asked,
@@ -18528,6 +18624,8 @@ tried-same-length : (t : ℕ) → tried-lts.Need-same-length (
   span-of-reads.Learnt,
   alone-reads.Asked,
   alone-reads.Learnt,
+  erred-reads.Asked,
+  erred-reads.Learnt,
   catch-below t,
   catch.Post,
   add-reads.Asked,
@@ -18550,6 +18648,8 @@ tried-same-length-2 : (t : ℕ) → tried-lts.Need-same-length-2 (
   span-of-reads.Learnt,
   alone-reads.Asked,
   alone-reads.Learnt,
+  erred-reads.Asked,
+  erred-reads.Learnt,
   catch-below t,
   catch.Post,
   add-reads.Asked,
@@ -18572,6 +18672,8 @@ tried-same-length-3 : (t : ℕ) → tried-lts.Need-same-length-3 (
   span-of-reads.Learnt,
   alone-reads.Asked,
   alone-reads.Learnt,
+  erred-reads.Asked,
+  erred-reads.Learnt,
   catch-below t,
   catch.Post,
   add-reads.Asked,
@@ -18594,6 +18696,8 @@ tried-returns-2 : (t : ℕ) → tried-lts.Need-returns-2 (
   span-of-reads.Learnt,
   alone-reads.Asked,
   alone-reads.Learnt,
+  erred-reads.Asked,
+  erred-reads.Learnt,
   catch-below t,
   catch.Post,
   add-reads.Asked,
@@ -18616,6 +18720,8 @@ tried-enum-known-x : (t : ℕ) → tried-lts.Need-enum-known-x (
   span-of-reads.Learnt,
   alone-reads.Asked,
   alone-reads.Learnt,
+  erred-reads.Asked,
+  erred-reads.Learnt,
   catch-below t,
   catch.Post,
   add-reads.Asked,
@@ -18638,6 +18744,8 @@ tried-span-of-requires : (t : ℕ) → tried-lts.Need-span-of-requires (
   span-of-reads.Learnt,
   alone-reads.Asked,
   alone-reads.Learnt,
+  erred-reads.Asked,
+  erred-reads.Learnt,
   catch-below t,
   catch.Post,
   add-reads.Asked,
@@ -18660,6 +18768,8 @@ tried-alone-requires : (t : ℕ) → tried-lts.Need-alone-requires (
   span-of-reads.Learnt,
   alone-reads.Asked,
   alone-reads.Learnt,
+  erred-reads.Asked,
+  erred-reads.Learnt,
   catch-below t,
   catch.Post,
   add-reads.Asked,
@@ -18670,6 +18780,30 @@ tried-alone-requires : (t : ℕ) → tried-lts.Need-alone-requires (
   handlers-flagged-reads.Learnt,
 ) (tried-at t) tried.Post tried-Inv-loop tried-μ-loop
 tried-alone-requires t c κs = tt
+
+tried-erred-requires : (t : ℕ) → tried-lts.Need-erred-requires (
+  current-range-reads.Asked,
+  current-range-reads.Learnt,
+  bump-reads.Asked,
+  bump-reads.Learnt,
+  prim-below t,
+  prim.Post,
+  span-of-reads.Asked,
+  span-of-reads.Learnt,
+  alone-reads.Asked,
+  alone-reads.Learnt,
+  erred-reads.Asked,
+  erred-reads.Learnt,
+  catch-below t,
+  catch.Post,
+  add-reads.Asked,
+  add-reads.Learnt,
+  check-reads.Asked,
+  check-reads.Learnt,
+  handlers-flagged-reads.Asked,
+  handlers-flagged-reads.Learnt,
+) (tried-at t) tried.Post tried-Inv-loop tried-μ-loop
+tried-erred-requires t c κs = tt
 
 tried-same-length-4 : (t : ℕ) → tried-lts.Need-same-length-4 (
   current-range-reads.Asked,
@@ -18682,6 +18816,8 @@ tried-same-length-4 : (t : ℕ) → tried-lts.Need-same-length-4 (
   span-of-reads.Learnt,
   alone-reads.Asked,
   alone-reads.Learnt,
+  erred-reads.Asked,
+  erred-reads.Learnt,
   catch-below t,
   catch.Post,
   add-reads.Asked,
@@ -18691,7 +18827,7 @@ tried-same-length-4 : (t : ℕ) → tried-lts.Need-same-length-4 (
   handlers-flagged-reads.Asked,
   handlers-flagged-reads.Learnt,
 ) (tried-at t) tried.Post tried-Inv-loop tried-μ-loop
-tried-same-length-4 t c = (c .before .before .before .before .before .before .before .before .before .before .before .before .prim .kept .1 .1 .0)
+tried-same-length-4 t c = (c .before .before .before .before .before .before .before .before .before .before .before .before .before .prim .kept .1 .1 .0)
 
 tried-same-length-5 : (t : ℕ) → tried-lts.Need-same-length-5 (
   current-range-reads.Asked,
@@ -18704,6 +18840,8 @@ tried-same-length-5 : (t : ℕ) → tried-lts.Need-same-length-5 (
   span-of-reads.Learnt,
   alone-reads.Asked,
   alone-reads.Learnt,
+  erred-reads.Asked,
+  erred-reads.Learnt,
   catch-below t,
   catch.Post,
   add-reads.Asked,
@@ -18713,7 +18851,7 @@ tried-same-length-5 : (t : ℕ) → tried-lts.Need-same-length-5 (
   handlers-flagged-reads.Asked,
   handlers-flagged-reads.Learnt,
 ) (tried-at t) tried.Post tried-Inv-loop tried-μ-loop
-tried-same-length-5 t c = (c .before .before .before .before .before .before .before .before .before .before .before .before .prim .kept .1 .1 .1 .0)
+tried-same-length-5 t c = (c .before .before .before .before .before .before .before .before .before .before .before .before .before .prim .kept .1 .1 .1 .0)
 
 tried-same-length-6 : (t : ℕ) → tried-lts.Need-same-length-6 (
   current-range-reads.Asked,
@@ -18726,6 +18864,8 @@ tried-same-length-6 : (t : ℕ) → tried-lts.Need-same-length-6 (
   span-of-reads.Learnt,
   alone-reads.Asked,
   alone-reads.Learnt,
+  erred-reads.Asked,
+  erred-reads.Learnt,
   catch-below t,
   catch.Post,
   add-reads.Asked,
@@ -18735,7 +18875,7 @@ tried-same-length-6 : (t : ℕ) → tried-lts.Need-same-length-6 (
   handlers-flagged-reads.Asked,
   handlers-flagged-reads.Learnt,
 ) (tried-at t) tried.Post tried-Inv-loop tried-μ-loop
-tried-same-length-6 t c = (c .before .before .before .before .before .before .before .before .before .before .before .before .prim .kept .1 .1 .1 .1 .0)
+tried-same-length-6 t c = (c .before .before .before .before .before .before .before .before .before .before .before .before .before .prim .kept .1 .1 .1 .1 .0)
 
 tried-returns-3 : (t : ℕ) → tried-lts.Need-returns-3 (
   current-range-reads.Asked,
@@ -18748,6 +18888,8 @@ tried-returns-3 : (t : ℕ) → tried-lts.Need-returns-3 (
   span-of-reads.Learnt,
   alone-reads.Asked,
   alone-reads.Learnt,
+  erred-reads.Asked,
+  erred-reads.Learnt,
   catch-below t,
   catch.Post,
   add-reads.Asked,
@@ -18757,7 +18899,7 @@ tried-returns-3 : (t : ℕ) → tried-lts.Need-returns-3 (
   handlers-flagged-reads.Asked,
   handlers-flagged-reads.Learnt,
 ) (tried-at t) tried.Post tried-Inv-loop tried-μ-loop
-tried-returns-3 t c = let c₁ = c .before in let c₂ = c₁ .before in let c₃ = c₂ .before .before in let c₄ = c₃ .before .before .before .before .before .before .before .before in let c₅ = c₄ .before .before .before .before .before .before in let c₆ = c₅ .before .before in let c₇ = c₆ .before in sym (pc.tried-other _ _ _ _ (via asMoved (c₆ .bump .ensures _ _) (c₅ .taken .given .1)) (via asParsed (c₄ .prim .ensures) (c₃ .read .given .1)) (c₂ .match3 .keys2) (c₇ .current-range .ensures) (c₁ .span-of .ensures) (c .alone .ensures))
+tried-returns-3 t c = let c₁ = c .before in let c₂ = c₁ .before in let c₃ = c₂ .before in let c₄ = c₃ .before .before in let c₅ = c₄ .before .before .before .before .before .before .before .before in let c₆ = c₅ .before .before .before .before .before .before in let c₇ = c₆ .before .before in let c₈ = c₇ .before in erring (c .erred .ensures) (pc.tried-other _ _ _ _ (via asMoved (c₇ .bump .ensures _ _) (c₆ .taken .given .1)) (via asParsed (c₅ .prim .ensures) (c₄ .read .given .1)) (c₃ .match3 .keys2) (c₈ .current-range .ensures) (c₂ .span-of .ensures) (c₁ .alone .ensures))
 
 tried-loop-holds : (t : ℕ) → tried-lts.Need-loop-holds (
   current-range-reads.Asked,
@@ -18770,6 +18912,8 @@ tried-loop-holds : (t : ℕ) → tried-lts.Need-loop-holds (
   span-of-reads.Learnt,
   alone-reads.Asked,
   alone-reads.Learnt,
+  erred-reads.Asked,
+  erred-reads.Learnt,
   catch-below t,
   catch.Post,
   add-reads.Asked,
@@ -18792,6 +18936,8 @@ tried-catch-requires : (t : ℕ) → tried-lts.Need-catch-requires (
   span-of-reads.Learnt,
   alone-reads.Asked,
   alone-reads.Learnt,
+  erred-reads.Asked,
+  erred-reads.Learnt,
   catch-below t,
   catch.Post,
   add-reads.Asked,
@@ -18814,6 +18960,8 @@ tried-enum-known-handled : (t : ℕ) → tried-lts.Need-enum-known-handled (
   span-of-reads.Learnt,
   alone-reads.Asked,
   alone-reads.Learnt,
+  erred-reads.Asked,
+  erred-reads.Learnt,
   catch-below t,
   catch.Post,
   add-reads.Asked,
@@ -18836,6 +18984,8 @@ tried-enum-known-handled-2 : (t : ℕ) → tried-lts.Need-enum-known-handled-2 (
   span-of-reads.Learnt,
   alone-reads.Asked,
   alone-reads.Learnt,
+  erred-reads.Asked,
+  erred-reads.Learnt,
   catch-below t,
   catch.Post,
   add-reads.Asked,
@@ -18858,6 +19008,8 @@ tried-same-length-7 : (t : ℕ) → tried-lts.Need-same-length-7 (
   span-of-reads.Learnt,
   alone-reads.Asked,
   alone-reads.Learnt,
+  erred-reads.Asked,
+  erred-reads.Learnt,
   catch-below t,
   catch.Post,
   add-reads.Asked,
@@ -18880,6 +19032,8 @@ tried-same-length-8 : (t : ℕ) → tried-lts.Need-same-length-8 (
   span-of-reads.Learnt,
   alone-reads.Asked,
   alone-reads.Learnt,
+  erred-reads.Asked,
+  erred-reads.Learnt,
   catch-below t,
   catch.Post,
   add-reads.Asked,
@@ -18902,6 +19056,8 @@ tried-same-length-9 : (t : ℕ) → tried-lts.Need-same-length-9 (
   span-of-reads.Learnt,
   alone-reads.Asked,
   alone-reads.Learnt,
+  erred-reads.Asked,
+  erred-reads.Learnt,
   catch-below t,
   catch.Post,
   add-reads.Asked,
@@ -18924,6 +19080,8 @@ tried-returns-4 : (t : ℕ) → tried-lts.Need-returns-4 (
   span-of-reads.Learnt,
   alone-reads.Asked,
   alone-reads.Learnt,
+  erred-reads.Asked,
+  erred-reads.Learnt,
   catch-below t,
   catch.Post,
   add-reads.Asked,
@@ -18946,6 +19104,8 @@ tried-add-requires : (t : ℕ) → tried-lts.Need-add-requires (
   span-of-reads.Learnt,
   alone-reads.Asked,
   alone-reads.Learnt,
+  erred-reads.Asked,
+  erred-reads.Learnt,
   catch-below t,
   catch.Post,
   add-reads.Asked,
@@ -18968,6 +19128,8 @@ tried-check-requires : (t : ℕ) → tried-lts.Need-check-requires (
   span-of-reads.Learnt,
   alone-reads.Asked,
   alone-reads.Learnt,
+  erred-reads.Asked,
+  erred-reads.Learnt,
   catch-below t,
   catch.Post,
   add-reads.Asked,
@@ -18990,6 +19152,8 @@ tried-enum-known-again : (t : ℕ) → tried-lts.Need-enum-known-again (
   span-of-reads.Learnt,
   alone-reads.Asked,
   alone-reads.Learnt,
+  erred-reads.Asked,
+  erred-reads.Learnt,
   catch-below t,
   catch.Post,
   add-reads.Asked,
@@ -19012,6 +19176,8 @@ tried-loop-less : (t : ℕ) → tried-lts.Need-loop-less (
   span-of-reads.Learnt,
   alone-reads.Asked,
   alone-reads.Learnt,
+  erred-reads.Asked,
+  erred-reads.Learnt,
   catch-below t,
   catch.Post,
   add-reads.Asked,
@@ -19034,6 +19200,8 @@ tried-loop-again : (t : ℕ) → tried-lts.Need-loop-again (
   span-of-reads.Learnt,
   alone-reads.Asked,
   alone-reads.Learnt,
+  erred-reads.Asked,
+  erred-reads.Learnt,
   catch-below t,
   catch.Post,
   add-reads.Asked,
@@ -19056,6 +19224,8 @@ tried-enum-known-again-2 : (t : ℕ) → tried-lts.Need-enum-known-again-2 (
   span-of-reads.Learnt,
   alone-reads.Asked,
   alone-reads.Learnt,
+  erred-reads.Asked,
+  erred-reads.Learnt,
   catch-below t,
   catch.Post,
   add-reads.Asked,
@@ -19078,6 +19248,8 @@ tried-handlers-flagged-requires : (t : ℕ) → tried-lts.Need-handlers-flagged-
   span-of-reads.Learnt,
   alone-reads.Asked,
   alone-reads.Learnt,
+  erred-reads.Asked,
+  erred-reads.Learnt,
   catch-below t,
   catch.Post,
   add-reads.Asked,
@@ -19100,6 +19272,8 @@ tried-same-length-10 : (t : ℕ) → tried-lts.Need-same-length-10 (
   span-of-reads.Learnt,
   alone-reads.Asked,
   alone-reads.Learnt,
+  erred-reads.Asked,
+  erred-reads.Learnt,
   catch-below t,
   catch.Post,
   add-reads.Asked,
@@ -19122,6 +19296,8 @@ tried-same-length-11 : (t : ℕ) → tried-lts.Need-same-length-11 (
   span-of-reads.Learnt,
   alone-reads.Asked,
   alone-reads.Learnt,
+  erred-reads.Asked,
+  erred-reads.Learnt,
   catch-below t,
   catch.Post,
   add-reads.Asked,
@@ -19144,6 +19320,8 @@ tried-same-length-12 : (t : ℕ) → tried-lts.Need-same-length-12 (
   span-of-reads.Learnt,
   alone-reads.Asked,
   alone-reads.Learnt,
+  erred-reads.Asked,
+  erred-reads.Learnt,
   catch-below t,
   catch.Post,
   add-reads.Asked,
@@ -19166,6 +19344,8 @@ tried-returns-5 : (t : ℕ) → tried-lts.Need-returns-5 (
   span-of-reads.Learnt,
   alone-reads.Asked,
   alone-reads.Learnt,
+  erred-reads.Asked,
+  erred-reads.Learnt,
   catch-below t,
   catch.Post,
   add-reads.Asked,
@@ -19188,6 +19368,8 @@ tried-enum-known-again-3 : (t : ℕ) → tried-lts.Need-enum-known-again-3 (
   span-of-reads.Learnt,
   alone-reads.Asked,
   alone-reads.Learnt,
+  erred-reads.Asked,
+  erred-reads.Learnt,
   catch-below t,
   catch.Post,
   add-reads.Asked,
@@ -19210,6 +19392,8 @@ tried-same-length-13 : (t : ℕ) → tried-lts.Need-same-length-13 (
   span-of-reads.Learnt,
   alone-reads.Asked,
   alone-reads.Learnt,
+  erred-reads.Asked,
+  erred-reads.Learnt,
   catch-below t,
   catch.Post,
   add-reads.Asked,
@@ -19232,6 +19416,8 @@ tried-same-length-14 : (t : ℕ) → tried-lts.Need-same-length-14 (
   span-of-reads.Learnt,
   alone-reads.Asked,
   alone-reads.Learnt,
+  erred-reads.Asked,
+  erred-reads.Learnt,
   catch-below t,
   catch.Post,
   add-reads.Asked,
@@ -19254,6 +19440,8 @@ tried-same-length-15 : (t : ℕ) → tried-lts.Need-same-length-15 (
   span-of-reads.Learnt,
   alone-reads.Asked,
   alone-reads.Learnt,
+  erred-reads.Asked,
+  erred-reads.Learnt,
   catch-below t,
   catch.Post,
   add-reads.Asked,
@@ -19276,6 +19464,8 @@ tried-returns-6 : (t : ℕ) → tried-lts.Need-returns-6 (
   span-of-reads.Learnt,
   alone-reads.Asked,
   alone-reads.Learnt,
+  erred-reads.Asked,
+  erred-reads.Learnt,
   catch-below t,
   catch.Post,
   add-reads.Asked,
@@ -19333,7 +19523,7 @@ typed-returns : (t : ℕ) → typed-lts.Need-returns (
   rhs-below t,
   rhs.Post,
 ) (typed-at t) typed.Post
-typed-returns t c = sym (st.typed-wrong _ _ _ _ _ (c .before .match .keys2) (c .unexpected .ensures _ _))
+typed-returns t c = erring (c .unexpected .ensures _ _) (st.typed-wrong _ _ _ _ _ (c .before .match .keys2))
 
 typed-bump-requires : (t : ℕ) → typed-lts.Need-bump-requires (
   unexpected-reads.Asked,
@@ -21622,6 +21812,8 @@ pub +anon+arms+assign+atom+block+brace+call+case+catch+cond+def+each+expr+exprs+
       to-assign-left-reads.Learnt,
       alone-reads.Asked,
       alone-reads.Learnt,
+      erred-reads.Asked,
+      erred-reads.Learnt,
       add-reads.Asked,
       add-reads.Learnt,
     )
@@ -21653,6 +21845,7 @@ pub +anon+arms+assign+atom+block+brace+call+case+catch+cond+def+each+expr+exprs+
     (lhs-enum-known-to t)
     (lhs-enum-told t)
     (lhs-alone-requires t)
+    (lhs-erred-requires t)
     (lhs-same-length-10 t)
     (lhs-same-length-11 t)
     (lhs-same-length-12 t)
@@ -22213,6 +22406,8 @@ pub +anon+arms+assign+atom+block+brace+call+case+catch+cond+def+each+expr+exprs+
       span-of-reads.Learnt,
       alone-reads.Asked,
       alone-reads.Learnt,
+      erred-reads.Asked,
+      erred-reads.Learnt,
       catch-below t,
       catch.Post,
       add-reads.Asked,
@@ -22241,6 +22436,7 @@ pub +anon+arms+assign+atom+block+brace+call+case+catch+cond+def+each+expr+exprs+
     (tried-enum-known-x t)
     (tried-span-of-requires t)
     (tried-alone-requires t)
+    (tried-erred-requires t)
     (tried-same-length-4 t)
     (tried-same-length-5 t)
     (tried-same-length-6 t)

@@ -1,6 +1,7 @@
 -- `import_end` meets its contract: a way for each end of each step.
 use Rattle.parts.proofs.ImportPaths as paths
 use Rattle.cursor.proofs.CheckPaths.{via}
+use Rattle.cursor.proofs.Failures.{erring}
 use Rattle.cursor.specs.Answers.{asMoved, asPicked, asBuilt}
 use Rattle.parts.proofs.imports.import_end.Statement.{statement}
 use Rattle.parts.proofs.imports.import_end.Tie as tie
@@ -14,7 +15,7 @@ returns-2 : tie.Need-returns-2
 returns-2 c = let c₁ = c .before in let c₂ = c₁ .before .before in let c₃ = c₂ .before .before in λ y e x. sym (paths.end-plain _ _ _ _ (via asPicked (c₃ .pick .ensures _ _ _ _ _) (c₂ .picked .given .1)) (c₁ .if1 .taken) (c .simple .ensures))
 
 returns-3 : tie.Need-returns-3
-returns-3 c = let c₁ = c .before in let c₂ = c₁ .before in let c₃ = c₂ .before .before in let c₄ = c₃ .before .before in λ y e x. sym (paths.end-other _ _ _ _ (via asPicked (c₄ .pick .ensures _ _ _ _ _) (c₃ .picked .given .1)) (c₂ .if1 .left) (c₁ .if2 .taken) (c .unexpected .ensures _ _))
+returns-3 c = let c₁ = c .before in let c₂ = c₁ .before in let c₃ = c₂ .before .before in let c₄ = c₃ .before .before in λ y e x. erring (c .unexpected .ensures _ _) (paths.end-other _ _ _ _ (via asPicked (c₄ .pick .ensures _ _ _ _ _) (c₃ .picked .given .1)) (c₂ .if1 .left) (c₁ .if2 .taken))
 
 returns-4 : tie.Need-returns-4
 returns-4 c = let c₁ = c .before in let c₂ = c₁ .before .before in let c₃ = c₂ .before in let c₄ = c₃ .before in let c₅ = c₄ .before .before in let c₆ = c₅ .before .before in λ y e x. sym (paths.end-spent _ _ _ _ (via asPicked (c₆ .pick .ensures _ _ _ _ _) (c₅ .picked .given .1)) (c₄ .if1 .left) (c₃ .if2 .left) (via asMoved (c₂ .bump .ensures _ _) (c₁ .taken2 .given .1)))

@@ -1,6 +1,7 @@
 -- `import_tail` meets its contract: a way for each end of each step.
 use Rattle.parts.proofs.ImportPaths as paths
 use Rattle.cursor.proofs.CheckPaths.{via}
+use Rattle.cursor.proofs.Failures.{erring}
 use Rattle.cursor.specs.Answers.{asMoved, asPicked}
 use Rattle.types.specs.Answers.{asListed}
 use Rattle.parts.proofs.imports.import_tail.Statement.{statement}
@@ -12,7 +13,7 @@ returns : tie.Need-returns
 returns c = λ y e x. sym (paths.tail-full _ _ _ _ (via asPicked (c .before .before .before .pick .ensures _ _ _ _ _) (c .before .picked2 .given .1)))
 
 returns-2 : tie.Need-returns-2
-returns-2 c = let c₁ = c .before in let c₂ = c₁ .before .before in let c₃ = c₂ .before .before in λ y e x. sym (paths.tail-other _ _ _ _ (via asPicked (c₃ .pick .ensures _ _ _ _ _) (c₂ .picked .given .1)) (c₁ .if1 .taken) (c .unexpected .ensures _ _))
+returns-2 c = let c₁ = c .before in let c₂ = c₁ .before .before in let c₃ = c₂ .before .before in λ y e x. erring (c .unexpected .ensures _ _) (paths.tail-other _ _ _ _ (via asPicked (c₃ .pick .ensures _ _ _ _ _) (c₂ .picked .given .1)) (c₁ .if1 .taken))
 
 returns-3 : tie.Need-returns-3
 returns-3 c = let c₁ = c .before in let c₂ = c₁ .before .before in let c₃ = c₂ .before in let c₄ = c₃ .before .before in let c₅ = c₄ .before .before in λ y e x. sym (paths.tail-spent _ _ _ _ (via asPicked (c₅ .pick .ensures _ _ _ _ _) (c₄ .picked .given .1)) (c₃ .if1 .left) (via asMoved (c₂ .bump .ensures _ _) (c₁ .taken2 .given .1)))

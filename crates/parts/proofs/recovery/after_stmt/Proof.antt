@@ -13,10 +13,10 @@ returns-2 : tie.Need-returns-2
 returns-2 c = λ y. sym (paths.after-full _ _ _ _ _ _ (via asTest (c .before .before .before .eat .ensures _ _ _ _) (c .before .closed3 .given .1)))
 
 returns-3 : tie.Need-returns-3
-returns-3 c = let c₁ = c .before .before in let c₂ = c₁ .before .before .before in let c₃ = c₂ .before .before .before .before .before .before in let c₄ = c₃ .before in let c₅ = c₄ .before .before .before .before .before in let c₆ = c₅ .before .before in let c₇ = c₆ .before .before .before in let c₈ = c₇ .before .before in λ y. sym (paths.after-over _ _ _ _ _ _ (via asTest (c₈ .eat .ensures _ _ _ _) (c₇ .closed2 .given .1)) (via asTest (c₆ .check .ensures _ _ _ _ _) (c₅ .over .given .1)) (c₄ .unexpected .ensures _ _) (via asMoved (c₃ .log-error .ensures _) (c₂ .logged .given .1)) (c₁ .add-some2 .ensures _ _ _ _))
+returns-3 c = let c₁ = c .before .before in let c₂ = c₁ .before .before .before in let c₃ = c₂ .before .before .before .before .before .before in let c₄ = c₃ .before in let c₅ = c₄ .before .before .before .before .before in let c₆ = c₅ .before .before in let c₇ = c₆ .before .before .before in let c₈ = c₇ .before .before in λ y. sym (paths.after-over _ _ _ _ _ _ (via asTest (c₈ .eat .ensures _ _ _ _) (c₇ .closed2 .given .1)) (via asTest (c₆ .check .ensures _ _ _ _ _) (c₅ .over .given .1)) (c₄ .unexpected-at .ensures _ _) (via asMoved (c₃ .log-error .ensures _) (c₂ .logged .given .1)) (c₁ .add-some2 .ensures _ _ _ _))
 
 returns-4 : tie.Need-returns-4
-returns-4 c = let c₁ = c .before in let c₂ = c₁ .before .before .before .before .before .before in let c₃ = c₂ .before in let c₄ = c₃ .before .before .before .before .before in let c₅ = c₄ .before .before in let c₆ = c₅ .before .before .before in let c₇ = c₆ .before .before in λ y. sym (paths.after-unlogged _ _ _ _ _ _ (via asTest (c₇ .eat .ensures _ _ _ _) (c₆ .closed2 .given .1)) (via asTest (c₅ .check .ensures _ _ _ _ _) (c₄ .over .given .1)) (c₃ .unexpected .ensures _ _) (via asMoved (c₂ .log-error .ensures _) (c₁ .logged2 .given .1)))
+returns-4 c = let c₁ = c .before in let c₂ = c₁ .before .before .before .before .before .before in let c₃ = c₂ .before in let c₄ = c₃ .before .before .before .before .before in let c₅ = c₄ .before .before in let c₆ = c₅ .before .before .before in let c₇ = c₆ .before .before in λ y. sym (paths.after-unlogged _ _ _ _ _ _ (via asTest (c₇ .eat .ensures _ _ _ _) (c₆ .closed2 .given .1)) (via asTest (c₅ .check .ensures _ _ _ _ _) (c₄ .over .given .1)) (c₃ .unexpected-at .ensures _ _) (via asMoved (c₂ .log-error .ensures _) (c₁ .logged2 .given .1)))
 
 returns-5 : tie.Need-returns-5
 returns-5 c = let c₁ = c .before in let c₂ = c₁ .before .before in let c₃ = c₂ .before .before .before in let c₄ = c₃ .before .before in λ y. sym (paths.after-lost _ _ _ _ _ _ (via asTest (c₄ .eat .ensures _ _ _ _) (c₃ .closed2 .given .1)) (via asTest (c₂ .check .ensures _ _ _ _ _) (c₁ .over3 .given .1)))

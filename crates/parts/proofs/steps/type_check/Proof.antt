@@ -1,5 +1,6 @@
 use Rattle.parts.proofs.StepPaths as paths
 use Rattle.cursor.proofs.CheckPaths.{via}
+use Rattle.cursor.proofs.Failures.{erring}
 use Rattle.cursor.specs.Answers.{asMoved, asBuilt}
 use mathlib.Core.Path.{_≡_, sym, _∙_}
 use Rattle.parts.proofs.steps.type_check.Statement.{statement}
@@ -7,10 +8,10 @@ use Rattle.parts.proofs.steps.type_check.Tie as tie
 use borrow.Author.Needs.{needs}
 
 returns : tie.Need-returns
-returns c = λ e y l. sym (paths.type-out _ _ _ _ _ (c .unexpected .ensures _ _) (sym (c .before .before .before .current-range .ensures) ∙ c .before .enum-told .given .1))
+returns c = λ e y l. erring (c .unexpected .ensures _ _) (paths.type-out _ _ _ _ _ (sym (c .before .before .before .current-range .ensures) ∙ c .before .enum-told .given .1))
 
 returns-2 : tie.Need-returns-2
-returns-2 c = let c₁ = c .before in let c₂ = c₁ .before .before in let c₃ = c₂ .before in let c₄ = c₃ .before .before in let c₅ = c₄ .before .before in λ e y l. sym (paths.type-none _ _ _ _ _ (c .unexpected2 .ensures _ _) (sym (c₅ .current-range .ensures) ∙ c₄ .here .given .1) (c₃ .current-kind .ensures) (sym (c₁ .enum-told2 .given .1) ∙ c₂ .checked-type .ensures))
+returns-2 c = let c₁ = c .before in let c₂ = c₁ .before .before in let c₃ = c₂ .before in let c₄ = c₃ .before .before in let c₅ = c₄ .before .before in λ e y l. erring (c .unexpected2 .ensures _ _) (paths.type-none _ _ _ _ _ (sym (c₅ .current-range .ensures) ∙ c₄ .here .given .1) (c₃ .current-kind .ensures) (sym (c₁ .enum-told2 .given .1) ∙ c₂ .checked-type .ensures))
 
 returns-3 : tie.Need-returns-3
 returns-3 c = let c₁ = c .before in let c₂ = c₁ .before .before in let c₃ = c₂ .before .before in let c₄ = c₃ .before .before in let c₅ = c₄ .before in let c₆ = c₅ .before .before in let c₇ = c₆ .before .before in λ e y l. sym (paths.type-spent _ _ _ _ _ (sym (c₇ .current-range .ensures) ∙ c₆ .here .given .1) (c₅ .current-kind .ensures) (sym (c₃ .found .given .1) ∙ c₄ .checked-type .ensures) (via asMoved (c₂ .bump .ensures _ _) (c₁ .taken2 .given .1)))

@@ -1,12 +1,13 @@
 use Rattle.types.proofs.LitPaths as paths
 use Rattle.cursor.proofs.CheckPaths.{via}
+use Rattle.cursor.proofs.Failures.{erring}
 use Rattle.cursor.specs.Answers.{asMoved}
 use mathlib.Core.Path.{_≡_, sym, _∙_}
 use Rattle.types.proofs.lits.ident.Statement.{statement}
 use Rattle.types.proofs.lits.ident.Tie as tie
 
 returns : tie.Need-returns
-returns c = λ t e x. sym (paths.ident-out _ _ _ (c .unexpected .ensures _ _) (sym (c .before .before .before .current-range .ensures) ∙ c .before .enum-told .given .1))
+returns c = λ t e x. erring (c .unexpected .ensures _ _) (paths.ident-out _ _ _ (sym (c .before .before .before .current-range .ensures) ∙ c .before .enum-told .given .1))
 
 returns-2 : tie.Need-returns-2
 returns-2 c = let c₁ = c .before in let c₂ = c₁ .before .before in let c₃ = c₂ .before .before .before in let c₄ = c₃ .before .before in λ t e x. sym (paths.ident-failed _ _ _ (sym (c₄ .current-range .ensures) ∙ c₃ .here .given .1) (via asMoved (c₂ .expect .ensures _ _ _ _) (c₁ .named2 .given .1)))
