@@ -17,6 +17,10 @@ Form = List Range
 abbrev pub between : ℕ → ℕ → Range
 between low high = record { low = low; high = high }
 
+-- UTF8-1
+abbrev pub ascii : Range
+ascii = between 0x00 0x7F
+
 -- UTF8-tail
 abbrev pub tail : Range
 tail = between 0x80 0xBF
@@ -24,7 +28,7 @@ tail = between 0x80 0xBF
 -- UTF8-char: UTF8-1, UTF8-2, the four rows of UTF8-3 and the three of UTF8-4
 abbrev pub forms : List Form
 forms =
-    (between 0x00 0x7F ∷ [])
+    (ascii ∷ [])
     ∷ (between 0xC2 0xDF ∷ tail ∷ [])
     ∷ (between 0xE0 0xE0 ∷ between 0xA0 0xBF ∷ tail ∷ [])
     ∷ (between 0xE1 0xEC ∷ tail ∷ tail ∷ [])
