@@ -150,7 +150,7 @@ fn is_full(roomy: bool, told: usize) -> bool
     if roomy { false } else { LIVE_ROOM <= told }
 }
 
-// Whether a kind is one of a chain's. Nothing else is in the loop, so that the compiler makes one test of it.
+// Whether a kind is one of a chain's. Nothing else is in the loop, so that of a longer chain the compiler makes a test of bits.
 pub fn is_in(kind: u32, chain: &[u8]) -> bool
     ensures { λ r. ⌜ r ≡ isIn kind (now (chain .entry)) ⌝ }
 {

@@ -131,7 +131,7 @@ fn char_length(text: &[u8], at: usize) -> usize
     }
 }
 
-// Whether four bytes from `at` on are a character each. Most texts are made of such runs, for which this takes half the instructions.
+// Whether four bytes from `at` on are a character each: one test of the length serves all four.
 fn four_ascii(text: &[u8], at: usize) -> bool
     ensures { λ r. ⌜ r ≡ fits (replicate 4 ascii) (drop at (now (text .entry))) ⌝ }
 {
