@@ -5,11 +5,11 @@ use native.Mathlib.Numerals.{add-one, sub-one}
 use mathlib.Core.Path.{_≡_, refl, sym, ap, _∙_}
 use mathlib.Core.Bool.{Bool, true, false, cond, not, _&&_, false≢true, true≢false}
 use mathlib.Core.List.{List, [], _∷_}
-use lib.ListN.{length, getD, drop, replicate, length-drop, length-replicate, drop-of-length-le}
+use lib.ListN.{length, getD, drop, replicate, drop-of-length-le}
 use lib.Seq.{drop-cons, drop-drop}
 use lib.Dec.{ltb, lit<}
 use borrow.Author.Tests.{ltb-true, ltb-false}
-use Rattle.entry.specs.Utf8.{Range, Form, ascii, tail, forms, holds, fits, firstFit, charLength, noTail}
+use Rattle.entry.specs.Utf8.{Range, Form, tail, forms, holds, fits, firstFit, charLength, noTail}
 use Rattle.entry.proofs.Forms.{holds-in, holds-below, holds-above, apart, parted, gap, only, nth}
 
 module _ (r : Range) (f : Form) (t : List ℕ) (k : ℕ) where
@@ -88,22 +88,6 @@ fits-short (r ∷ f) (b ∷ t) h = go (holds r b) (fits-short f t (omega arith))
     go : (x : Bool) → fits f t ≡ false → x && fits f t ≡ false
     go true e = e
     go false e = refl
-
--- a run of one-byte characters, `n` and one more of them, from place `k` on; `j` is the place behind it
-module _ (t : List ℕ) (k : ℕ) where
-  pub run-short : (n : ℕ) → length t < k + n → 0 < n → fits (replicate n ascii) (drop k t) ≡ false
-  run-short n h z = let l = length-drop k t in let m = length-replicate n ascii in fits-short (replicate n ascii) (drop k t) (omega arith)
-
-  module _ (n : ℕ) (p : k < length t) where
-    pub run-not : 0x7F < getD t k 0 → fits (replicate (suc n) ascii) (drop k t) ≡ false
-    run-not q = fits-here ascii (replicate n ascii) t k p ∙ rw (holds-above ascii _ q)
-
-    pub run-on : (j : ℕ) → j ≡ k + 1 → getD t k 0 ≤ 0x7F → fits (replicate (suc n) ascii) (drop k t) ≡ fits (replicate n ascii) (drop j t)
-    run-on j e q = fits-here ascii (replicate n ascii) t k p ∙ rw (holds-in ascii _ zero-le q, e)
-
-pub none-left : (t : List ℕ) → fits [] t ≡ true
-unfolding fits
-none-left t = refl
 
 -- the character that starts with `b`: by row `i` of the syntax, counted from 0, where `b` is in its first range, and none where `b` is in no row's
 module _ (b : ℕ) (t : List ℕ) where

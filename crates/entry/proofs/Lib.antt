@@ -1,7 +1,9 @@
 pub mod Logic
 pub mod Forms
 pub mod Fits
+pub mod Eights
 pub mod Walk
+pub mod Runs
 pub mod Paths
 pub mod Places
 pub mod Grammar

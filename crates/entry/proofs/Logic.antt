@@ -14,3 +14,7 @@ either false b p = inr p
 pub neither : (a b : Bool) → a || b ≡ false → (a ≡ false) × (b ≡ false)
 neither true b p = absurd (true≢false p)
 neither false b p = (refl, p)
+
+pub or-false : (a : Bool) → a || false ≡ a
+or-false true = refl
+or-false false = refl

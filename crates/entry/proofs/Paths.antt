@@ -9,18 +9,23 @@ use lib.Seq.{drop-cons, take-all}
 use lib.Dec.{leb, ltb, eqb}
 use borrow.Author.Tests.{eq-eqb, ne-eqb, lt-ltb, le-ltb, le-leb, lt-leb, leb-false, ltb-false, not-false}
 use Rattle.kinds.specs.Text.{part}
-use Rattle.entry.specs.Utf8.{boundary, isUtf8}
-use Rattle.entry.specs.Check.{maxText, maxTokens, lastKind, EOF, STR, RAW-STR, BYTE-STR, badKind, badRange, isQuote, quoted, marked, badQuotes, tokenFault, orElse, tokensFault, entryOf}
-use Rattle.entry.proofs.Logic.{neither}
+use Rattle.entry.specs.Utf8.{tail, boundary, isUtf8, noTail}
+use Rattle.entry.specs.Check.{maxText, maxTokens, lastKind, EOF, STR, RAW-STR, BYTE-STR, refuse, badKind, badRange, isQuote, quoted, marked, badQuotes, tokenFault, orElse, tokensFault, entryOf}
+use Rattle.entry.proofs.Logic.{neither, or-false}
+use Rattle.entry.proofs.Fits.{fits-past}
 use Rattle.entry.specs.declared.Refusal.{Refusal}
 use Rattle.entry.specs.declared.Refusal.the-variants.{TextTooLong, TooManyTokens, NotUtf8, BadKind, BadRange, BadQuotes}
+use Rattle.entry.specs.declared.Entry.{Entry}
 use Rattle.entry.specs.declared.Entry.the-variants.{Fit, Refused}
 
-pub kind-high : (k : ℕ) → lastKind < k → badKind k ≡ true
-kind-high k p = rw (lt-ltb _ _ p)
+pub kind-below : (k : ℕ) → k < EOF → badKind k ≡ false
+kind-below k p = rw (le-ltb lastKind k (omega arith), ne-eqb k EOF (λ e. omega (arith, e)))
 
-pub kind-low : (k : ℕ) → k ≤ lastKind → badKind k ≡ eqb k EOF
-kind-low k p = rw (le-ltb _ _ p)
+pub kind-end : (k : ℕ) → k ≡ EOF → badKind k ≡ true
+kind-end k p = rw p
+
+pub kind-above : (k : ℕ) → (k ≡ EOF → ⊥) → badKind k ≡ ltb lastKind k
+kind-above k p = rw (ne-eqb k EOF p) (or-false (ltb lastKind k))
 
 module _ (at : ℕ → Bool) (size last start end : ℕ) where
   pub range-empty : end ≤ start → badRange at size last start end ≡ true
@@ -28,23 +33,20 @@ module _ (at : ℕ → Bool) (size last start end : ℕ) where
   range-empty p = rw (le-leb _ _ p)
 
   module _ (p : start < end) where
-    pub range-outside : size < end → badRange at size last start end ≡ true
+    pub range-start : ltb start last || not (at start) ≡ true → badRange at size last start end ≡ true
     unfolding badRange
-    range-outside q = rw (lt-leb _ _ p, lt-ltb _ _ q)
+    range-start e = rw (lt-leb _ _ p) (go (ltb size end) (ltb start last) (not (at start)) e)
+      where
+        go : (x y z : Bool) → y || z ≡ true → false || x || y || z || not (at end) ≡ true
+        go true y z e = refl
+        go false true z e = refl
+        go false false z e = rw e
 
-    module _ (q : end ≤ size) where
-      pub range-back : start < last → badRange at size last start end ≡ true
-      unfolding badRange
-      range-back r = rw (lt-leb _ _ p, le-ltb _ _ q, lt-ltb _ _ r)
-
-      module _ (r : last ≤ start) where
-        pub range-cut : at start ≡ false → badRange at size last start end ≡ true
-        unfolding badRange
-        range-cut s = rw (lt-leb _ _ p, le-ltb _ _ q, le-ltb _ _ r, s)
-
-        pub range-end : at start ≡ true → badRange at size last start end ≡ not (at end)
-        unfolding badRange
-        range-end s = rw (lt-leb _ _ p, le-ltb _ _ q, le-ltb _ _ r, s)
+    pub range-end : ltb start last || not (at start) ≡ false → badRange at size last start end ≡ ltb size end || not (at end)
+    unfolding badRange
+    range-end e =
+        let h = neither (ltb start last) (not (at start)) e in
+        rw (lt-leb _ _ p, h .0, h .1) (ap (λ x. x || not (at end)) (or-false (ltb size end || false) ∙ or-false (ltb size end)))
 
 -- what is known of a range that is not refused
 pub record InText (at : ℕ → Bool) (size last start end : ℕ) : Type 0 where
@@ -68,6 +70,23 @@ range-good at size last start end e =
       starts = not-false _ (c .1);
       ends = not-false _ (d .1);
     }
+
+-- a start and an end alone
+pub start-again : (t : List ℕ) (last start : ℕ) → noTail t last ≡ true → start ≡ last → ltb start last || not (noTail t start) ≡ false
+start-again t last start p e = rw (e, p, le-ltb last last (omega arith))
+
+pub start-back : (t : List ℕ) (last start : ℕ) → start < last → ltb start last || not (noTail t start) ≡ true
+start-back t last start p = rw (lt-ltb _ _ p)
+
+pub start-on : (t : List ℕ) (last start : ℕ) → last ≤ start → ltb start last || not (noTail t start) ≡ not (noTail t start)
+start-on t last start p = rw (le-ltb _ _ p)
+
+pub end-within : (t : List ℕ) (end : ℕ) → end < length t → ltb (length t) end || not (noTail t end) ≡ not (noTail t end)
+end-within t end p = rw (le-ltb (length t) end (omega arith))
+
+pub end-past : (t : List ℕ) (end : ℕ) → length t ≤ end → ltb (length t) end || not (noTail t end) ≡ ltb (length t) end
+unfolding noTail
+end-past t end p = rw (fits-past tail [] t end p) (or-false (ltb (length t) end))
 
 pub quote-double : (b : ℕ) → b ≡ 0x22 → isQuote b ≡ true
 quote-double b p = rw (eq-eqb _ _ p)
@@ -148,6 +167,18 @@ module _ (at : ℕ → Bool) (text : List ℕ) (last kind start end : ℕ) where
       pub fault-none : badQuotes kind (part text start end) ≡ false → tokenFault at text last kind start end ≡ Fit
       unfolding tokenFault
       fault-none r = rw (p, q, r)
+
+-- an answer `Fit` passed every test on the way, and its range ends between two characters
+pub refuse-fit : (b : Bool) (r : Refusal) (e : Entry) → refuse b r e ≡ Fit → (b ≡ false) × (e ≡ Fit)
+refuse-fit true r e p = let z : _≡_ {A = ℕ} 0 1 = cc in absurd (omega arith)
+refuse-fit false r e p = (refl, p)
+
+pub fit-ends : (at : ℕ → Bool) (text : List ℕ) (last kind start end : ℕ) → tokenFault at text last kind start end ≡ Fit → at end ≡ true
+unfolding tokenFault
+fit-ends at text last kind start end e =
+    let four = refuse-fit (badKind kind) _ _ e in
+    let five = refuse-fit (badRange at (length text) last start end) _ _ (four .1) in
+    range-good at (length text) last start end (five .0) .ends
 
 module _ (at : ℕ → Bool) (text : List ℕ) (last : ℕ) where
   tokens-short : (ws : List ℕ) → length ws < 3 → tokensFault at text last ws ≡ Fit

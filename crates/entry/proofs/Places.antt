@@ -1,7 +1,7 @@
 -- In a text that is UTF-8 the boundaries are the places where no tail stands, so both say the same of the tokens.
-use Prim.Native.Nat.{ℕ, zero, suc, _≤_}
+use Prim.Native.Nat.{ℕ, zero, suc, _≤_, zero-le}
 use native.Mathlib.Omega.{arith}
-use mathlib.Core.Path.{_≡_, refl}
+use mathlib.Core.Path.{_≡_, refl, sym}
 use mathlib.Core.Bool.{Bool, true, false, cond, not, _&&_, _||_, false≢true}
 use mathlib.Core.List.{List, [], _∷_}
 use lib.ListN.{length, drop, replicate}
@@ -82,6 +82,11 @@ places (b ∷ t) (suc n) (suc k) a f p = places t n k a (both (holds tail b) (fi
 pub boundary-no-tail : (t : List ℕ) → isUtf8 t ≡ true → (k : ℕ) → k ≤ length t → boundary t k ≡ noTail t k
 unfolding noTail fits
 boundary-no-tail t e k p = places t 0 k e refl p
+
+-- no tail stands at its start
+pub first-place : (t : List ℕ) → isUtf8 t ≡ true → noTail t 0 ≡ true
+unfolding arrives
+first-place t e = sym (boundary-no-tail t e 0 zero-le)
 
 -- two ways to tell the places of a text say the same of its tokens, where they agree within the text
 module _ (text : List ℕ) (at by : ℕ → Bool) (same : (k : ℕ) → k ≤ length text → at k ≡ by k) where

@@ -9,20 +9,15 @@ use lib.Dec.{leb, ltb, eqb}
 use borrow.Author.Tests.{leb-true, ltb-false, eqb-false, eqb-true, not-false}
 use Rattle.kinds.specs.Text.{part}
 use Rattle.entry.specs.Utf8.{boundary, isUtf8}
-use Rattle.entry.specs.Check.{maxText, maxTokens, lastKind, EOF, STR, RAW-STR, BYTE-STR, refuse, badKind, badRange, isQuote, quoted, marked, badQuotes, tokenFault, orElse, tokensFault, entryOf}
+use Rattle.entry.specs.Check.{maxText, maxTokens, lastKind, EOF, STR, RAW-STR, BYTE-STR, badKind, badRange, isQuote, quoted, marked, badQuotes, tokenFault, orElse, tokensFault, entryOf}
 use Rattle.entry.specs.Sound.{kindOf, startOf, endOf, count, Token, Sheet}
 use Rattle.entry.proofs.Logic.{both, neither}
-use Rattle.entry.proofs.Paths.{range-good, quotes-str, quotes-raw, quotes-byte}
+use Rattle.entry.proofs.Paths.{range-good, refuse-fit, quotes-str, quotes-raw, quotes-byte}
 use Rattle.entry.proofs.Grammar.{boundary-sound, utf8-decides}
-use Rattle.entry.specs.declared.Refusal.{Refusal}
 use Rattle.entry.specs.declared.Entry.{Entry}
 use Rattle.entry.specs.declared.Entry.the-variants.{Fit, Refused}
 
--- an answer `Fit` passed every test on the way
-refuse-fit : (b : Bool) (r : Refusal) (e : Entry) → refuse b r e ≡ Fit → (b ≡ false) × (e ≡ Fit)
-refuse-fit true r e p = let z : _≡_ {A = ℕ} 0 1 = cc in absurd (omega arith)
-refuse-fit false r e p = (refl, p)
-
+-- an answer `Fit` passed every token
 or-else-fit : (a b : Entry) → orElse a b ≡ Fit → (a ≡ Fit) × (b ≡ Fit)
 or-else-fit Fit b p = (refl, p)
 or-else-fit (Refused r) b p = let z : _≡_ {A = ℕ} 0 1 = cc in absurd (omega arith)

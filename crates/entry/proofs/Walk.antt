@@ -4,16 +4,13 @@ use native.Mathlib.Omega.{arith}
 use mathlib.Core.Path.{_≡_, refl, sym, _∙_}
 use mathlib.Core.Bool.{Bool, true, false, cond, false≢true}
 use mathlib.Core.List.{List, [], _∷_}
-use lib.ListN.{length, getD, drop, replicate, length-drop, drop-of-length-le}
+use lib.ListN.{length, drop, length-drop, drop-of-length-le}
 use lib.Seq.{drop-cons, drop-drop}
-use lib.Dec.{leb}
-use borrow.Author.Tests.{leb-true}
-use Rattle.entry.specs.Utf8.{Form, ascii, forms, holds, fits, firstFit, charLength, arrives, isUtf8}
+use Rattle.entry.specs.Utf8.{Form, forms, holds, fits, firstFit, charLength, arrives, isUtf8}
 use Rattle.entry.proofs.Logic.{both}
-use Rattle.entry.proofs.Fits.{fits-within, fits-here, char-ascii, char-here}
 
 -- a character lies within the text
-fits-length : (f : Form) (t : List ℕ) → fits f t ≡ true → length f ≤ length t
+pub fits-length : (f : Form) (t : List ℕ) → fits f t ≡ true → length f ≤ length t
 unfolding fits
 fits-length [] t e = zero-le
 fits-length (r ∷ f) [] e = absurd (false≢true e)
@@ -67,21 +64,5 @@ module _ (t : List ℕ) (k : ℕ) where
       let s : suc k + n ≡ k + suc n = omega arith in
       rw (drop-cons t k 0 p) (utf8-cons _ _ n (sym (rw (drop-cons t k 0 p) at e)) ∙ rw (drop-drop n (suc k) t, s))
 
-  pub utf8-ascii : k < length t → getD t k 0 < 0x80 → isUtf8 (drop k t) ≡ isUtf8 (drop (k + 1) t)
-  utf8-ascii p q = utf8-step 1 p (λ e. omega (arith, e)) (sym (char-here t k p ∙ char-ascii _ _ (omega arith)))
-
-  -- a run of one-byte characters
-  pub run-room : (f : Form) → fits f (drop k t) ≡ true → k ≤ length t → k + length f ≤ length t
-  run-room f e p = let h = fits-length f (drop k t) e in let l = length-drop k t in omega arith
-
   pub char-room : (n : ℕ) → k ≤ length t → n ≡ charLength (drop k t) → k + n ≤ length t
   char-room n p e = let h = char-within (drop k t) in let l = length-drop k t in omega arith
-
-pub utf8-run : (t : List ℕ) (n k : ℕ) → fits (replicate n ascii) (drop k t) ≡ true → isUtf8 (drop k t) ≡ isUtf8 (drop (k + n) t)
-utf8-run t zero k e = let s : k + 0 ≡ k = omega arith in rw s
-utf8-run t (suc n) k e =
-    let p = fits-within ascii (replicate n ascii) t k e in
-    let h = both (holds ascii (getD t k 0)) (fits (replicate n ascii) (drop (k + 1) t)) (sym (fits-here ascii (replicate n ascii) t k p) ∙ e) in
-    let q = leb-true (getD t k 0) 0x7F (both (leb 0x00 (getD t k 0)) (leb (getD t k 0) 0x7F) (h .0) .1) in
-    let s : k + 1 + n ≡ k + suc n = omega arith in
-    utf8-ascii t k p (omega arith) ∙ (utf8-run t n (k + 1) (h .1) ∙ rw s)

@@ -1,4 +1,5 @@
 pub mod Utf8
+pub mod Little
 pub mod Grammar
 pub mod Check
 pub mod Sound

@@ -57,6 +57,11 @@ firstFit (f ∷ fs) t = cond (fits f t) (length f) (firstFit fs t)
 abbrev pub charLength : List ℕ → ℕ
 charLength = firstFit forms
 
+-- how many characters of one byte a text begins with
+unfoldable pub asciiRun : List ℕ → ℕ
+asciiRun [] = 0
+asciiRun (b ∷ t) = cond (holds ascii b) (suc (asciiRun t)) 0
+
 -- whether whole characters, after `owed` bytes of one that has begun, end exactly `k` bytes on
 unfoldable pub arrives : ℕ → List ℕ → ℕ → Bool
 arrives owed t zero = eqb owed 0

@@ -1,10 +1,13 @@
 // The entry check: whether a text and its tokens are fit to read, or which of the refusals 1 to 6 is given.
 // Tokens are 32-bit words, three to a token: kind, start, end. Nothing is written.
 ghost use mathlib.Core.Path.{_≡_};
-ghost use mathlib.Core.Bool.{cond};
+ghost use mathlib.Core.Bool.{cond, true, not, _||_};
 ghost use mathlib.Core.List.{[], _∷_};
-ghost use lib.ListN.{length, drop, replicate};
-ghost use Rattle.entry.specs.Utf8.{ascii, tail, between, fits, charLength, isUtf8, noTail};
+ghost use Prim.Native.Nat.{_+_, _≤_};
+ghost use lib.ListN.{length, take, drop, replicate};
+ghost use lib.Dec.{ltb};
+ghost use Rattle.entry.specs.Utf8.{ascii, tail, between, fits, charLength, asciiRun, isUtf8, noTail};
+ghost use Rattle.entry.specs.Little.{little};
 ghost use Rattle.entry.specs.Check.{refusalNumber, badKind, badRange, isQuote, quoted, marked, badQuotes, tokenFault, tokensFault, entryOf};
 
 // The refusals, in the order of their numbers.
@@ -28,6 +31,9 @@ pub const MAX_TEXT: usize = 65535;
 pub const MAX_TOKENS: usize = 4096;
 
 pub const LAST_KIND: u32 = 78;
+
+// The highest bit of each of eight bytes, which no character of one byte has.
+const HIGH_BITS: u64 = 0x8080_8080_8080_8080;
 
 // The kinds that the check names, as wide as a token's words.
 const EOF: u32 = kinds::EOF as u32;
@@ -131,51 +137,68 @@ fn char_length(text: &[u8], at: usize) -> usize
     }
 }
 
-// Whether four bytes from `at` on are a character each: one test of the length serves all four.
-fn four_ascii(text: &[u8], at: usize) -> bool
-    ensures { λ r. ⌜ r ≡ fits (replicate 4 ascii) (drop at (now (text .entry))) ⌝ }
+fn wide(b: u8) -> u64
+    ensures { λ r. ⌜ r ≡ b ⌝ }
 {
-    if text.len() < 4 {
+    b as u64
+}
+
+// The number that eight bytes spell, the lowest first. The compiler reads it at once.
+fn eight(text: &[u8], at: usize) -> u64
+    requires { ⌜ at + 8 ≤ length (now text) ⌝ }
+    ensures { λ r. ⌜ r ≡ little (take 8 (drop at (now (text .entry)))) ⌝ }
+{
+    wide(text[at])
+        + 0x100 * wide(text[at + 1])
+        + 0x1_0000 * wide(text[at + 2])
+        + 0x100_0000 * wide(text[at + 3])
+        + 0x1_0000_0000 * wide(text[at + 4])
+        + 0x100_0000_0000 * wide(text[at + 5])
+        + 0x1_0000_0000_0000 * wide(text[at + 6])
+        + 0x100_0000_0000_0000 * wide(text[at + 7])
+}
+
+// Whether eight bytes from `at` on are a character each: one test for all of them.
+fn eight_ascii(text: &[u8], at: usize) -> bool
+    requires { ⌜ at ≤ length (now text) ⌝ }
+    ensures { λ r. ⌜ r ≡ fits (replicate 8 ascii) (drop at (now (text .entry))) ⌝ }
+{
+    if text.len() - at < 8 {
         return false;
     }
-    if text.len() - 4 < at {
-        return false;
+    eight(text, at) & HIGH_BITS == 0
+}
+
+// The first place from `from` on whose byte is no character by itself, or the text's end. Most bytes are one, so they are passed in turns of a few
+// instructions, and the rows are kept for the others.
+fn past_ascii(text: &[u8], from: usize) -> usize
+    requires { ⌜ from ≤ length (now text) ⌝ }
+    ensures { λ r. ⌜ r ≡ from + asciiRun (drop from (now (text .entry))) ⌝ }
+{
+    let mut at = from;
+    while eight_ascii(text, at) {
+        at += 8;
     }
-    if 0x7F < text[at] {
-        return false;
+    while at < text.len() {
+        if 0x7F < text[at] {
+            return at;
+        }
+        at += 1;
     }
-    if 0x7F < text[at + 1] {
-        return false;
-    }
-    if 0x7F < text[at + 2] {
-        return false;
-    }
-    if 0x7F < text[at + 3] {
-        return false;
-    }
-    true
+    at
 }
 
 // Whether the text is whole characters from its start to its end.
 fn is_utf8(text: &[u8]) -> bool
     ensures { λ r. ⌜ r ≡ isUtf8 (now (text .entry)) ⌝ }
 {
-    let mut at = 0;
+    let mut at = past_ascii(text, 0);
     while at < text.len() {
-        // Most bytes are a character by themselves: they are told here, in a turn of a few instructions, and the rows are kept for the others.
-        if four_ascii(text, at) {
-            at += 4;
-            continue;
-        }
-        if text[at] < 0x80 {
-            at += 1;
-            continue;
-        }
         let n = char_length(text, at);
         if n == 0 {
             return false;
         }
-        at += n;
+        at = past_ascii(text, at + n);
     }
     true
 }
@@ -191,29 +214,52 @@ fn no_tail(text: &[u8], at: usize) -> bool
 fn bad_kind(kind: u32) -> bool
     ensures { λ r. ⌜ r ≡ badKind kind ⌝ }
 {
-    if LAST_KIND < kind {
+    if kind < EOF {
+        return false;
+    }
+    if kind == EOF {
         return true;
     }
-    kind == EOF
+    LAST_KIND < kind
 }
 
-// 5: a range that is empty or ends before its start, leaves the text, starts before the previous end or cuts a character.
+// Whether a range starts before the last one ended or cuts a character by its start. Most start where the last one ended, which was tested as its end.
+fn bad_start(text: &[u8], last: u32, start: u32) -> bool
+    requires { ⌜ noTail (now text) last ≡ true ⌝ }
+    ensures { λ r. ⌜ r ≡ ltb start last || not (noTail (now (text .entry)) start) ⌝ }
+{
+    if start == last {
+        return false;
+    }
+    if start < last {
+        return true;
+    }
+    !no_tail(text, start as usize)
+}
+
+// Whether a range leaves the text or cuts a character by its end.
+fn bad_end(text: &[u8], end: u32) -> bool
+    ensures { λ r. ⌜ r ≡ ltb (length (now (text .entry))) end || not (noTail (now (text .entry)) end) ⌝ }
+{
+    let to = end as usize;
+    if to < text.len() {
+        return !no_tail(text, to);
+    }
+    text.len() < to
+}
+
+// 5: a range that is empty or ends before its start, or whose start or end is bad.
 fn bad_range(text: &[u8], last: u32, start: u32, end: u32) -> bool
+    requires { ⌜ noTail (now text) last ≡ true ⌝ }
     ensures { λ r. ⌜ r ≡ badRange (noTail (now (text .entry))) (length (now (text .entry))) last start end ⌝ }
 {
     if end <= start {
         return true;
     }
-    if text.len() < end as usize {
+    if bad_start(text, last, start) {
         return true;
     }
-    if start < last {
-        return true;
-    }
-    if !no_tail(text, start as usize) {
-        return true;
-    }
-    !no_tail(text, end as usize)
+    bad_end(text, end)
 }
 
 fn is_quote(b: u8) -> bool
@@ -275,6 +321,7 @@ fn bad_quotes(kind: u32, s: &[u8]) -> bool
 
 // The fault of a token after one that ended at `last`.
 fn token_fault(text: &[u8], last: u32, kind: u32, start: u32, end: u32) -> Entry
+    requires { ⌜ noTail (now text) last ≡ true ⌝ }
     ensures { λ r. ⌜ r ≡ tokenFault (noTail (now (text .entry))) (now (text .entry)) last kind start end ⌝ }
 {
     if bad_kind(kind) {
@@ -293,6 +340,7 @@ fn token_fault(text: &[u8], last: u32, kind: u32, start: u32, end: u32) -> Entry
 
 // The fault of the first bad token.
 fn tokens_fault(text: &[u8], tokens: &[u32]) -> Entry
+    requires { ⌜ noTail (now text) 0 ≡ true ⌝ }
     ensures { λ r. ⌜ r ≡ tokensFault (noTail (now (text .entry))) (now (text .entry)) 0 (now (tokens .entry)) ⌝ }
 {
     let mut at: usize = 0;

@@ -1,5 +1,4 @@
 -- `no_tail` meets its contract.
-use Rattle.entry.proofs.Paths as paths
 use Rattle.entry.proofs.Fits as fit
 use Rattle.entry.proofs.no_tail.Statement.{statement}
 use Rattle.entry.proofs.no_tail.Tie as tie

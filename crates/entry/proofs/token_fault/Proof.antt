@@ -8,6 +8,9 @@ use Rattle.entry.proofs.token_fault.Tie as tie
 returns : tie.Need-returns
 returns c = sym (paths.fault-kind _ _ _ _ _ _ (sym (c .before .bad-kind .ensures) ∙ c .if1 .taken))
 
+bad-range-requires : tie.Need-bad-range-requires
+bad-range-requires c κs = c .before .before .before .pre
+
 returns-2 : tie.Need-returns-2
 returns-2 c = sym (paths.fault-range _ _ _ _ _ _ (sym (c .before .before .before .bad-kind .ensures) ∙ c .before .before .if1 .left) (sym (c .before .bad-range .ensures) ∙ c .if2 .taken))
 
@@ -31,7 +34,7 @@ token-fault-spec =
     tie.close (tie.spec
     (λ c κs. tt)
     returns
-    (λ c κs. tt)
+    bad-range-requires
     returns-2
     sub-bad-quotes
     part-bad-quotes-start
