@@ -1,6 +1,6 @@
 -- A chain of kinds of which none stands here.
-use mathlib.Core.Path.{_≡_, refl, sym, _∙_}
-use mathlib.Core.Bool.{Bool, true, false, not, _&&_, _||_, false≢true, true≢false}
+use mathlib.Core.Path.{_≡_, sym, _∙_}
+use mathlib.Core.Bool.{true, false, not, true≢false}
 use mathlib.Core.List.{List, [], _∷_}
 use lib.ListN.{length, drop, getD}
 use lib.Seq.{drop-cons}
@@ -8,7 +8,8 @@ use lib.Dec.{eqb}
 use native.Mathlib.Omega.{arith}
 use native.Mathlib.Numerals.{add-one}
 use Prim.Native.Nat.{ℕ, zero, suc, _+_, _<_, _≤_}
-use borrow.Author.Tests.{eq-eqb, ne-eqb}
+use borrow.Author.Tests.{eq-eqb, ne-eqb, not-true}
+use Rattle.kinds.proofs.Logic.{both, neither}
 use Rattle.cursor.specs.Checks.{liveRoom, roomFor, isIn, misses}
 use Rattle.cursor.proofs.CheckPaths.{drop-all, roomy-within}
 
@@ -28,11 +29,7 @@ module _ (k : ℕ) (ks : List ℕ) (i : ℕ) where
 pub not-in : (k : ℕ) (ks : List ℕ) (i : ℕ) → isIn k ks ≡ false → i < length ks → k ≡ getD ks i 0 → ⊥
 not-in k [] i e p q = omega arith
 not-in k (a ∷ ks) zero e p q = true≢false (sym (rw (eq-eqb k a q)) ∙ e)
-not-in k (a ∷ ks) (suc i) e p q = not-in k ks i (go (eqb k a) e) (omega arith) q
-  where
-    go : (b : Bool) → b || isIn k ks ≡ false → isIn k ks ≡ false
-    go true r = absurd (true≢false r)
-    go false r = r
+not-in k (a ∷ ks) (suc i) e p q = not-in k ks i (neither (eqb k a) (isIn k ks) e .1) (omega arith) q
 
 -- what a miss tells
 module _ (found told : ℕ) (ks : List ℕ) where
@@ -46,8 +43,4 @@ module _ (found told : ℕ) (ks : List ℕ) where
 
   pub missed : misses found told ks ≡ true → (isIn found ks ≡ false) × (told + length ks ≤ liveRoom)
   unfolding misses
-  missed = go (isIn found ks) refl
-    where
-      go : (b : Bool) → isIn found ks ≡ b → not b && roomFor told (length ks) ≡ true → (isIn found ks ≡ false) × (told + length ks ≤ liveRoom)
-      go true e p = absurd (false≢true p)
-      go false e p = (e, roomy-within told (length ks) p)
+  missed e = let h = both (not (isIn found ks)) (roomFor told (length ks)) e in (not-true (isIn found ks) (h .0), roomy-within told (length ks) (h .1))

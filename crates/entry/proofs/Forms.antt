@@ -9,7 +9,7 @@ use lib.ListN.{length, getD}
 use lib.Dec.{leb, ltb}
 use borrow.Author.Tests.{ltb-true, leb-true, le-leb, lt-leb}
 use Rattle.entry.specs.Utf8.{Range, Form, holds, fits, firstFit}
-use Rattle.entry.proofs.Logic.{both, either}
+use Rattle.kinds.proofs.Logic.{both, either}
 
 pub holds-in : (r : Range) (b : ℕ) → r .low ≤ b → b ≤ r .high → holds r b ≡ true
 holds-in r b p q = rw (le-leb _ _ p) (le-leb _ _ q)

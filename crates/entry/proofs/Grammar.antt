@@ -11,7 +11,7 @@ use lib.Dec.{leb, eqb·suc-zero}
 use borrow.Author.Tests.{leb-true}
 use Rattle.entry.specs.Utf8.{Form, forms, holds, fits, firstFit, charLength, arrives, boundary, isUtf8}
 use Rattle.entry.specs.Grammar.{Spells, Character, Octets, Boundary}
-use Rattle.entry.proofs.Logic.{both}
+use Rattle.kinds.proofs.Logic.{both}
 use Rattle.entry.proofs.Forms.{holds-in, apart, parted, only}
 use Rattle.entry.proofs.Walk.{char-within, arrives-skip}
 

@@ -1,4 +1,3 @@
-pub mod Logic
 pub mod Forms
 pub mod Fits
 pub mod Eights

@@ -11,7 +11,7 @@ use borrow.Author.Tests.{eq-eqb, ne-eqb, lt-ltb, le-ltb, le-leb, lt-leb, leb-fal
 use Rattle.kinds.specs.Text.{part}
 use Rattle.entry.specs.Utf8.{tail, boundary, isUtf8, noTail}
 use Rattle.entry.specs.Check.{maxText, maxTokens, lastKind, EOF, STR, RAW-STR, BYTE-STR, refuse, badKind, badRange, isQuote, quoted, marked, badQuotes, tokenFault, orElse, tokensFault, entryOf}
-use Rattle.entry.proofs.Logic.{neither, or-false}
+use Rattle.kinds.proofs.Logic.{neither, or-false}
 use Rattle.entry.proofs.Fits.{fits-past}
 use Rattle.entry.specs.declared.Refusal.{Refusal}
 use Rattle.entry.specs.declared.Refusal.the-variants.{TextTooLong, TooManyTokens, NotUtf8, BadKind, BadRange, BadQuotes}

@@ -9,7 +9,7 @@ use lib.Dec.{leb, ltb, eqb·suc-zero}
 use borrow.Author.Tests.{leb-true, leb-false, ltb-false}
 use Rattle.entry.specs.Utf8.{Form, tail, forms, holds, fits, firstFit, charLength, arrives, boundary, isUtf8, noTail}
 use Rattle.entry.specs.Check.{badRange, tokenFault, tokensFault}
-use Rattle.entry.proofs.Logic.{both, neither}
+use Rattle.kinds.proofs.Logic.{both, neither}
 use Rattle.entry.proofs.Forms.{holds-in, gap}
 
 -- the bytes of a form after its first are tails

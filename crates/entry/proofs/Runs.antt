@@ -10,7 +10,7 @@ use lib.Seq.{drop-cons}
 use native.Mathlib.Numerals.{add-one}
 use borrow.Author.Tests.{leb-true}
 use Rattle.entry.specs.Utf8.{Form, ascii, holds, fits, asciiRun, isUtf8}
-use Rattle.entry.proofs.Logic.{both}
+use Rattle.kinds.proofs.Logic.{both}
 use Rattle.entry.proofs.Forms.{holds-in, holds-above}
 use Rattle.entry.proofs.Fits.{fits-within, fits-here, fits-short, char-ascii, char-here}
 use Rattle.entry.proofs.Walk.{fits-length, utf8-step}

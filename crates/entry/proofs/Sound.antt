@@ -11,7 +11,7 @@ use Rattle.kinds.specs.Text.{part}
 use Rattle.entry.specs.Utf8.{boundary, isUtf8}
 use Rattle.entry.specs.Check.{maxText, maxTokens, lastKind, EOF, STR, RAW-STR, BYTE-STR, badKind, badRange, isQuote, quoted, marked, badQuotes, tokenFault, orElse, tokensFault, entryOf}
 use Rattle.entry.specs.Sound.{kindOf, startOf, endOf, count, Token, Sheet}
-use Rattle.entry.proofs.Logic.{both, neither}
+use Rattle.kinds.proofs.Logic.{both, neither}
 use Rattle.entry.proofs.Paths.{range-good, refuse-fit, quotes-str, quotes-raw, quotes-byte}
 use Rattle.entry.proofs.Grammar.{boundary-sound, utf8-decides}
 use Rattle.entry.specs.declared.Entry.{Entry}

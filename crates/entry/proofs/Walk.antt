@@ -7,7 +7,7 @@ use mathlib.Core.List.{List, [], _∷_}
 use lib.ListN.{length, drop, length-drop, drop-of-length-le}
 use lib.Seq.{drop-cons, drop-drop}
 use Rattle.entry.specs.Utf8.{Form, forms, holds, fits, firstFit, charLength, arrives, isUtf8}
-use Rattle.entry.proofs.Logic.{both}
+use Rattle.kinds.proofs.Logic.{both}
 
 -- a character lies within the text
 pub fits-length : (f : Form) (t : List ℕ) → fits f t ≡ true → length f ≤ length t

@@ -5,6 +5,7 @@ use mathlib.Core.List.{List, [], _∷_}
 use Prim.Native.Nat.{ℕ, _+_}
 use borrow.Author.Tests.{eqb-false, ltb-true, ltb-false}
 use lib.Dec.{eqb, ltb}
+use Rattle.kinds.proofs.Logic.{neither}
 use Rattle.kinds.specs.Number as kind
 use Rattle.cursor.specs.declared.State.{State}
 use Rattle.cursor.specs.Sheet.{Sheet, kindAt}
@@ -36,11 +37,7 @@ module _ (e : Sheet) (lambda : Bool) (s : State) (w : World) where
   unfolding noSuffix
   none-failed x p = rw p
 
--- a kind that is none of them is not the first and none of the others
-neither : (a b : Bool) → (a || b) ≡ false → (a ≡ false) × (b ≡ false)
-neither true b p = absurd (true≢false p)
-neither false b p = (refl, p)
-
+-- a kind that is neither one nor another nor among the rest is not the first of them and not among the rest
 without : (a b c : Bool) → (a || (b || c)) ≡ false → (a || c) ≡ false
 without true b c p = absurd (true≢false p)
 without false b c p = neither b c p .1

@@ -1,3 +1,4 @@
+pub mod Logic
 pub mod Every
 pub mod Rest
 pub mod Parts
