@@ -1,7 +1,7 @@
 -- The rules of cursor are blind to what the lent buffers held.
 use mathlib.Core.Path.{_≡_, refl, sym, ap, _∙_, subst}
 use mathlib.Core.List.{List, [], _∷_}
-use mathlib.Core.Bool.{Bool, true, false}
+use mathlib.Core.Bool.{Bool, true, false, cond}
 use Prim.Native.Nat.{ℕ, zero, suc, _+_, _*_, _/_, _<_, _≤_, min}
 use native.Mathlib.Nat.{le-refl}
 use native.Mathlib.Omega.{arith}
@@ -77,9 +77,9 @@ write-same n l first h =
 
 -- no more kinds are listed than the live list has
 listed-few : (f : Fault) (s : State) → 0 + listLength f s ≤ s .live
-listed-few f s = by (f .listed)
+listed-few f s = by (eqb (f .listed) 1)
   where
-    by : (b : Bool) → 0 + (elim b as (λ _. ℕ) [ true ↦ min (s .live) liveRoom | false ↦ 0 ]) ≤ s .live
+    by : (b : Bool) → 0 + cond b (min (s .live) liveRoom) 0 ≤ s .live
     by true = omega arith
     by false = omega arith
 

@@ -89,7 +89,7 @@ module _ (e : Sheet) (k : ℕ) (s : State) (w : World) where
 
 -- the error of an unexpected token, from the kind and the range of the current one
 module _ (e : Sheet) (s : State) where
-  pub unexpected-is : {found : ℕ} {r : Ranged} → found ≡ kindAt (e .tokens) (s .at) → rangeAt (e .tokens) (s .at) ≡ r → unexpectedAt e s ≡ record { class = 0; found = found; span = foundAt r (s .prev); listed = true }
+  pub unexpected-is : {found : ℕ} {r : Ranged} → found ≡ kindAt (e .tokens) (s .at) → rangeAt (e .tokens) (s .at) ≡ r → unexpectedAt e s ≡ record { class = 0; found = found; span = foundAt r (s .prev); listed = 1 }
   unfolding unexpectedAt
   unexpected-is p q = rw (p, q)
 

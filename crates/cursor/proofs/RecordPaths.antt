@@ -1,13 +1,14 @@
 -- Each way through the rules that write records.
 use mathlib.Core.Path.{_≡_, refl, sym, _∙_}
 use mathlib.Core.List.{List}
-use mathlib.Core.Bool.{Bool, true, false}
+use mathlib.Core.Bool.{Bool, true, false, cond}
 use Prim.Native.Nat.{ℕ, zero, suc, _+_, _-_, _*_, _/_, _<_, _≤_, min}
 use native.Mathlib.Omega.{arith}
 use native.Mathlib.Nat.{min-eq-left, min-eq-right, le-of-lt}
 use lib.ListN.{length, set, getD}
 use lib.Seq.{set-out}
-use borrow.Author.Tests.{lt-ltb, le-ltb, le-leb, lt-leb}
+use lib.Dec.{eqb}
+use borrow.Author.Tests.{eq-eqb, ne-eqb, lt-ltb, le-ltb, le-leb, lt-leb}
 use Rattle.cursor.specs.declared.State.{State}
 use Rattle.cursor.specs.declared.Fault.{Fault}
 use Rattle.cursor.specs.declared.Kids.{Kids}
@@ -99,16 +100,16 @@ pub before : {n : ℕ} → (n ≡ 0 → ⊥) → n ≡ suc (n - 1)
 before p = omega arith
 
 module _ (f : Fault) (s : State) where
-  pub length-listed : {n : ℕ} → f .listed ≡ true → n ≡ min (s .live) liveRoom → n ≡ listLength f s
-  length-listed p q = q ∙ sym (rw p)
+  pub length-listed : {n : ℕ} → f .listed ≡ 1 → n ≡ min (s .live) liveRoom → n ≡ listLength f s
+  length-listed p q = q ∙ sym (rw (eq-eqb (f .listed) 1 p))
 
-  pub length-unlisted : f .listed ≡ false → 0 ≡ listLength f s
-  length-unlisted p = sym (rw p)
+  pub length-unlisted : (f .listed ≡ 1 → ⊥) → 0 ≡ listLength f s
+  length-unlisted p = sym (rw (ne-eqb (f .listed) 1 p))
 
   pub length-le : listLength f s ≤ liveRoom
-  length-le = by (f .listed)
+  length-le = by (eqb (f .listed) 1)
     where
-      by : (b : Bool) → elim b as (λ _. ℕ) [ true ↦ min (s .live) liveRoom | false ↦ 0 ] ≤ liveRoom
+      by : (b : Bool) → cond b (min (s .live) liveRoom) 0 ≤ liveRoom
       by true = omega arith
       by false = omega arith
 

@@ -237,7 +237,7 @@ eat-taken-is-no κs x p = apart says (p [] [] [] []) refl
 
 -- a comma that nobody wanted
 abbrev comma : Fault
-comma = record { class = 0; found = kind.Comma; span = span 2 3; listed = true }
+comma = record { class = 0; found = kind.Comma; span = span 2 3; listed = 1 }
 
 pub erred-with-a-number : (κs : _) (x : _) → erred.Post κs (state 2 1 1 0, (comma, tt)) (record { state = state 2 1 1 0; number = 7; fault = comma }) x → ⊥
 erred-with-a-number κs x p = apart (λ f. f .number) p refl
@@ -245,13 +245,13 @@ erred-with-a-number κs x p = apart (λ f. f .number) p refl
 pub erred-without-a-place : (κs : _) (x : _) → erred.Post κs (state 2 1 1 0, (comma, tt)) (erred begin comma) x → ⊥
 erred-without-a-place κs x p = apart (λ f. f .state .at) p refl
 
-pub unexpected-at-eof-from-0 : (κs : _) (x : _) → unexpected-at.Post κs (lent tokens, (state 3 3 0 0, tt)) (record { class = 0; found = kind.Eof; span = span 0 3; listed = true }) x → ⊥
+pub unexpected-at-eof-from-0 : (κs : _) (x : _) → unexpected-at.Post κs (lent tokens, (state 3 3 0 0, tt)) (record { class = 0; found = kind.Eof; span = span 0 3; listed = 1 }) x → ⊥
 unfolding unexpectedAt kindAt rangeAt count
 unexpected-at-eof-from-0 κs x p = apart (λ f. f .span .start) (p [] limits) refl
 
-pub unexpected-at-lists-nothing : (κs : _) (x : _) → unexpected-at.Post κs (lent tokens, (state 3 3 0 0, tt)) (record { class = 0; found = kind.Eof; span = span 3 3; listed = false }) x → ⊥
+pub unexpected-at-lists-nothing : (κs : _) (x : _) → unexpected-at.Post κs (lent tokens, (state 3 3 0 0, tt)) (record { class = 0; found = kind.Eof; span = span 3 3; listed = 0 }) x → ⊥
 unfolding unexpectedAt kindAt rangeAt count
-unexpected-at-lists-nothing κs x p = apart (λ f. bit (f .listed)) (p [] limits) refl
+unexpected-at-lists-nothing κs x p = apart (λ f. f .listed) (p [] limits) refl
 
 pub unexpected-past-the-token : (κs : _) (x : _) → unexpected.Post κs (lent tokens, (state 2 1 1 0, tt)) (erred (state 3 3 2 0) comma) x → ⊥
 unexpected-past-the-token κs x p = apart (λ f. f .state .at) (p [] limits) refl
@@ -266,7 +266,7 @@ expect-not-moved κs x p = apart (λ o. left o .at) (p [] [] [] []) refl
 
 pub expect-fault-before-the-test :
     (κs : _) (x : _) →
-    expect.Post κs (lent tokens, (lent (0 ∷ []), (limits, (state 0 0 0 0, (kind.Comma, tt))))) (moves.Failed (erred (state 0 0 0 0) (record { class = 0; found = kind.Ident; span = span 0 1; listed = true }))) x → ⊥
+    expect.Post κs (lent tokens, (lent (0 ∷ []), (limits, (state 0 0 0 0, (kind.Comma, tt))))) (moves.Failed (erred (state 0 0 0 0) (record { class = 0; found = kind.Ident; span = span 0 1; listed = 1 }))) x → ⊥
 unfolding expect unexpected eat check want kindAt count
 expect-fault-before-the-test κs x p = apart (λ o. left o .live) (p [] [] [] []) refl
 
@@ -349,7 +349,7 @@ flagged-14-bits κs x p = apart (λ k. k) p refl
 
 -- an error with two expected kinds, and how many errors and kinds are logged
 abbrev shut : Fault
-shut = record { class = 0; found = 51; span = span 0 1; listed = true }
+shut = record { class = 0; found = 51; span = span 0 1; listed = 1 }
 
 abbrev logged : ℕ → ℕ → State
 logged errors wanted = record { at = 0; prev = 0; reads = 0; nodes = 0; errors = errors; wanted = wanted; live = 2 }

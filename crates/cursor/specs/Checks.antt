@@ -69,7 +69,7 @@ foundAt ranged.Nowhere prev = record { start = prev; end = prev }
 
 -- the error of an unexpected token: the live list is what was expected
 unfoldable pub unexpectedAt : Sheet → State → Fault
-unexpectedAt e s = record { class = 0; found = kindAt (e .tokens) (s .at); span = foundAt (rangeAt (e .tokens) (s .at)) (s .prev); listed = true }
+unexpectedAt e s = record { class = 0; found = kindAt (e .tokens) (s .at); span = foundAt (rangeAt (e .tokens) (s .at)) (s .prev); listed = 1 }
 
 unfoldable pub unexpected : {A : Type 0} → Sheet → Rule A
 unexpected e s w = failed (fault s w (unexpectedAt e s))

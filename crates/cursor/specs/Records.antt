@@ -1,9 +1,9 @@
 -- Records: raw buffers, exactly as the code writes them.
 use Prim.Native.Nat.{ℕ, zero, suc, _+_, _*_, _/_, _%_, _^_, min}
 use mathlib.Core.List.{List}
-use mathlib.Core.Bool.{Bool, true, false}
+use mathlib.Core.Bool.{Bool, true, false, cond}
 use lib.ListN.{length}
-use lib.Dec.{ltb, leb}
+use lib.Dec.{ltb, leb, eqb}
 use Rattle.cursor.specs.declared.State.{State}
 use Rattle.cursor.specs.declared.Fault.{Fault}
 use Rattle.cursor.specs.declared.Kids.{Kids}
@@ -57,9 +57,9 @@ reflag (suc i) flags s w = done s (withNodes w (put (w .nodes) (cell i FLAGS) fl
 abbrev pub flagged : ℕ → ℕ → Bool → Bool → ℕ
 flagged n m one two = word32 (n + 2 ^ 15 * m + 2 ^ 30 * bit one + 2 ^ 31 * bit two)
 
--- how many kinds an error lists: the live list's, where it is the error's own
+-- how many kinds an error lists: the live list's, where it is the error's own (1)
 abbrev pub listLength : Fault → State → ℕ
-listLength f s = elim (f .listed) as (λ _. ℕ) [ true ↦ min (s .live) liveRoom | false ↦ 0 ]
+listLength f s = cond (eqb (f .listed) 1) (min (s .live) liveRoom) 0
 
 -- all six words of error record i, whose n expected kinds start at a place of the expected buffer
 unfoldable pub writeError : List ℕ → ℕ → Fault → ℕ → ℕ → List ℕ

@@ -27,7 +27,7 @@ erred s f = record { state = s; number = 0; fault = f }
 
 -- a refusal under a number, 7 to 11, which is all that it tells
 abbrev pub refusal : ℕ → Failure
-refusal n = record { state = begin; number = n; fault = record { class = 0; found = 0; span = record { start = 0; end = 0 }; listed = false } }
+refusal n = record { state = begin; number = n; fault = record { class = 0; found = 0; span = record { start = 0; end = 0 }; listed = 0 } }
 
 -- how a rule fails: Rust's Err, which is not logged yet; or a refusal, which ends the whole reading
 pub data Stop : Type 0 where

@@ -85,7 +85,7 @@ pub fn unexpected_at(tokens: &[u32], s: State) -> Fault
         class: 0,
         found,
         span,
-        listed: true,
+        listed: 1,
     }
 }
 

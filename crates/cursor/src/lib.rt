@@ -42,12 +42,12 @@ pub enum Ranged {
 }
 
 // Rust's CompilerError, not yet logged: a kind that was found (class 0) or an integer's fault (class 1), and whether the live list is its
-// list of expected kinds.
+// list of expected kinds, 1 or 0: a word, since behind a bool each copy would have a gap of three bytes to copy too.
 pub struct Fault {
     pub class: u32,
     pub found: u32,
     pub span: Span,
-    pub listed: bool,
+    pub listed: u32,
 }
 
 // How a rule ends where it does not succeed: Rust's Err, under number 0, or a refusal, which ends the whole reading. It is no enum so that its State lies where
@@ -104,7 +104,7 @@ const NO_FAULT: Fault = Fault {
     class: 0,
     found: 0,
     span: Span { start: 0, end: 0 },
-    listed: false,
+    listed: 0,
 };
 
 // The answer of a rule that only moves.

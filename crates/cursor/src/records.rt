@@ -143,7 +143,7 @@ pub fn flagged(n: u32, m: u32, one: bool, two: bool) -> u32
 fn list_length(s: State, f: Fault) -> usize
     ensures { λ r. ⌜ r ≡ listLength f s ⌝ }
 {
-    if f.listed {
+    if f.listed == 1 {
         return within(s.live as usize, LIVE_ROOM);
     }
     0

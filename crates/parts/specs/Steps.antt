@@ -32,7 +32,7 @@ use Rattle.parts.specs.When.{when}
 
 -- an error that lists no expected kinds
 abbrev pub alone : ℕ → Span → Fault
-alone k span = record { class = 0; found = k; span = span; listed = false }
+alone k span = record { class = 0; found = k; span = span; listed = 0 }
 
 -- the operator of a compound assignment, by its place in the chain of signs: the fourth is `+=`
 abbrev pub operatorOf : ℕ → ℕ

@@ -70,7 +70,7 @@ pub fn alone(kind: u8, span: Span) -> Fault
         class: 0,
         found: kind as u32,
         span,
-        listed: false,
+        listed: 0,
     }
 }
 

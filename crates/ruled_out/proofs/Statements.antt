@@ -39,7 +39,7 @@ use Rattle.ruled_out.proofs.Small.{lent, room, blank, limits, state, sp
 
 -- an error that lists nothing, and where it was found: behind two tokens and with one record
 abbrev lost : Fault
-lost = record { class = 0; found = kind.Try; span = span 0 3; listed = false }
+lost = record { class = 0; found = kind.Try; span = span 0 3; listed = 0 }
 
 abbrev further : State
 further = state 2 5 2 1 0

@@ -56,10 +56,10 @@ two k l = k ∷ 0 ∷ 1 ∷ l ∷ 1 ∷ 2 ∷ []
 
 -- errors, operators and ends of lists
 
-pub alone-with-a-list : (κs : _) (x : _) → fault-alone.Post κs (kind.Try, (span 0 3, tt)) (record { class = 0; found = kind.Try; span = span 0 3; listed = true }) x → ⊥
-alone-with-a-list κs x p = apart (λ f. bit (f .listed)) p refl
+pub alone-with-a-list : (κs : _) (x : _) → fault-alone.Post κs (kind.Try, (span 0 3, tt)) (record { class = 0; found = kind.Try; span = span 0 3; listed = 1 }) x → ⊥
+alone-with-a-list κs x p = apart (λ f. f .listed) p refl
 
-pub alone-as-an-integer : (κs : _) (x : _) → fault-alone.Post κs (kind.Try, (span 0 3, tt)) (record { class = 1; found = kind.Try; span = span 0 3; listed = false }) x → ⊥
+pub alone-as-an-integer : (κs : _) (x : _) → fault-alone.Post κs (kind.Try, (span 0 3, tt)) (record { class = 1; found = kind.Try; span = span 0 3; listed = 0 }) x → ⊥
 alone-as-an-integer κs x p = apart (λ f. f .class) p refl
 
 pub items-end-of-elements-in-a-parenthesis : (κs : _) (x : _) → items-end.Post κs (1, tt) kind.CloseParen x → ⊥
@@ -111,7 +111,7 @@ pub no-member-after-a-question : (κs : _) (x : _) → no-member.Post κs (blank
 unfolding noMember unexpected
 no-member-after-a-question κs x p = apart ended (p [] limits (world [] [] [] [])) refl
 
-pub no-member-always-an-error : (κs : _) (x : _) → no-member.Post κs (blank, (begin, (sorts.Name 1, (ranged.Nowhere, tt)))) (chained.Failed (erred begin (record { class = 0; found = kind.Eof; span = span 0 0; listed = true }))) x → ⊥
+pub no-member-always-an-error : (κs : _) (x : _) → no-member.Post κs (blank, (begin, (sorts.Name 1, (ranged.Nowhere, tt)))) (chained.Failed (erred begin (record { class = 0; found = kind.Eof; span = span 0 0; listed = 1 }))) x → ⊥
 unfolding noMember
 no-member-always-an-error κs x p = apart ended (p [] limits (world [] [] [] [])) refl
 

@@ -69,7 +69,7 @@ module _ (e : Sheet) (s : State) (w : World) where
       unfolding lit litAt litFrom unexpected
       lit-none q = rw (p, ← h, lit, litAt) (rw (← q, litFrom))
 
-      pub lit-faulty : {n : ℕ} → literals.Faulty n ≡ literal (e .text) k r → lit e s w ≡ failed (fault s w (record { class = 1; found = n; span = r; listed = false }))
+      pub lit-faulty : {n : ℕ} → literals.Faulty n ≡ literal (e .text) k r → lit e s w ≡ failed (fault s w (record { class = 1; found = n; span = r; listed = 0 }))
       unfolding lit litAt litFrom
       lit-faulty q = rw (p, ← h, lit, litAt) (rw (← q, litFrom))
 

@@ -65,7 +65,7 @@ unfoldable pub litFrom : Sheet → Span → Literal → Rule ℕ
 litFrom e r (literals.Value l) = do
   bump e
   append l 0
-litFrom e r (literals.Faulty n) = λ s w. failed (fault s w (record { class = 1; found = n; span = r; listed = false }))
+litFrom e r (literals.Faulty n) = λ s w. failed (fault s w (record { class = 1; found = n; span = r; listed = 0 }))
 litFrom e r literals.Nothing = unexpected e
 
 unfoldable pub litAt : Sheet → ℕ → Ranged → Rule ℕ

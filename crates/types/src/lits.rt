@@ -131,7 +131,7 @@ pub fn lit(text: &[u8], tokens: &[u32], nodes: &mut [u32], limits: Limits, s: St
                 class: 1,
                 found: n as u32,
                 span,
-                listed: false,
+                listed: 0,
             };
             return Built::Failed(erred(s, fault));
         }
