@@ -148,9 +148,10 @@ impl Row {
         self.jobs.iter().map(|job| enter(&job.bundle).ok().expect("it was read")).collect()
     }
 
-    /// The sheets that are counted one instruction at a time: an emulator's log has a line for each, so there are fewer than in process.
-    fn few(&self) -> usize {
-        4_096_usize.div_ceil(self.size)
+    /// The sheets that are counted one instruction at a time: all of the class that the aim speaks of, and of the others fewer than in process, since an emulator's
+    /// log has a line for each instruction.
+    fn logged(&self) -> usize {
+        if self.class == "grammatical" { self.jobs.len() } else { 4_096_usize.div_ceil(self.size) }
     }
 }
 
@@ -229,7 +230,7 @@ fn write(folder: &str) {
     fs::create_dir_all(folder).expect("a folder");
     for row in rows() {
         for (name, least) in LENT {
-            let jobs = &row.jobs[..row.few()];
+            let jobs = &row.jobs[..row.logged()];
             let mut words = vec![jobs.len() as u32];
             for job in jobs {
                 let [n, e, k] = job.lent(least);
@@ -242,7 +243,7 @@ fn write(folder: &str) {
             let bytes: Vec<u8> = words.iter().flat_map(|word| word.to_le_bytes()).collect();
             fs::write(format!("{folder}/{}-{}{name}", row.class, row.size), bytes).expect("a file");
         }
-        println!("{} {} {}", row.class, row.size, row.few() * row.size);
+        println!("{} {} {}", row.class, row.size, row.logged() * row.size);
     }
 }
 
@@ -250,7 +251,7 @@ fn once(class: &str, size: usize, run: bool) {
     let class = CLASSES.into_iter().find(|known| *known == class).expect("a class");
     let row = row(class, size);
     let mut sheets = row.sheets();
-    sheets.truncate(row.few());
+    sheets.truncate(row.logged());
     if run {
         counted(&mut Side::Theirs(sheets));
     }

@@ -17,10 +17,10 @@ use Rattle.parts.specs.declared.values.Expr.{Expr}
 use Rattle.parts.specs.declared.values.Expr.the-variants as exprs
 use Rattle.parts.specs.Values.{linkOf, rowOf}
 use Rattle.parts.specs.Steps.{alone}
-use Rattle.exprs.specs.Inner.{Inner}
-use Rattle.exprs.specs.Atoms.{atomChain, group, doFunction, anonFunction, anon, alternate, ifElse, matchCase, caseTurn, cases, form, atom, primary}
-use Rattle.exprs.specs.Atoms as atoms
-use Rattle.exprs.specs.Precedence.{unaryChain, handler, handlerTurn, triedBy, tried, negated, unary, operated, infixBy, infixTurn, precedence}
+use Rattle.rules.specs.Inner.{Inner}
+use Rattle.rules.specs.Atoms.{atomChain, group, doFunction, anonFunction, anon, alternate, ifElse, matchCase, caseTurn, cases, form, atom, primary}
+use Rattle.rules.specs.Atoms as atoms
+use Rattle.rules.specs.Precedence.{unaryChain, handler, handlerTurn, triedBy, tried, negated, unary, operated, infixBy, infixTurn, precedence}
 use Rattle.blind.proofs.Blind.{Blind, gives, ifs, binds, thens, loops}
 use Rattle.blind.proofs.Cursor.{bump-blind, check-blind, eat-blind, expect-blind, pick-blind, eat-eol-blind, add-blind}
 use Rattle.blind.proofs.Items.{start-blind, close-blind, lit-blind, ident-blind}

@@ -10,11 +10,11 @@ use Rattle.cursor.specs.Rule.{Rule}
 use Rattle.parts.specs.declared.values.Expr.{Expr}
 use Rattle.parts.specs.Values.{linkOf, rowOf, rowWith}
 use Rattle.parts.specs.Steps.{itemsEnd}
-use Rattle.exprs.specs.Inner.{Inner}
-use Rattle.exprs.specs.Blocks.{block, andBlock}
-use Rattle.exprs.specs.Functions.{function, fnStmt}
-use Rattle.exprs.specs.Tables.{key, property, item, itemsOf, table, braceBlock, tableOrBlock, brace}
-use Rattle.exprs.specs.Primary.{memberChain, member, access, call, postfixTurn, primaryOf}
+use Rattle.rules.specs.Inner.{Inner}
+use Rattle.rules.specs.Blocks.{block, andBlock}
+use Rattle.rules.specs.Functions.{function, fnStmt}
+use Rattle.rules.specs.Tables.{key, property, item, itemsOf, table, braceBlock, tableOrBlock, brace}
+use Rattle.rules.specs.Primary.{memberChain, member, access, call, postfixTurn, primaryOf}
 use Rattle.blind.proofs.Blind.{Blind, gives, ifs, binds, thens, attempts, loops}
 use Rattle.blind.proofs.Cursor.{bump-blind, eat-blind, expect-blind, eat-range-blind, pick-blind, eat-eol-blind, add-blind}
 use Rattle.blind.proofs.Items.{start-blind, close-blind, pair-blind, ident-blind}

@@ -1,7 +1,7 @@
 -- What the rules on expressions have to be handed to be blind.
 use mathlib.Core.Bool.{Bool}
 use Prim.Native.Nat.{ℕ}
-use Rattle.exprs.specs.Inner.{Inner, expr}
+use Rattle.rules.specs.Inner.{Inner, expr}
 use Rattle.blind.proofs.Blind.{Blind, gives, binds}
 
 pub record Handed (r : Inner) : Type 0 where

@@ -3,7 +3,7 @@ use Prim.Native.Nat.{ℕ, zero, suc}
 use Rattle.kinds.specs.Number as kind
 use Rattle.cursor.specs.declared.Kids.{Kids}
 use Rattle.cursor.specs.Sheet.{Sheet}
-use Rattle.exprs.specs.Levels.{knot, levels, programRecord, program}
+use Rattle.rules.specs.Levels.{knot, levels, programRecord, program}
 use Rattle.blind.proofs.Blind.{too-deep, Blind, refuses, binds}
 use Rattle.blind.proofs.Cursor.{append-blind}
 use Rattle.blind.proofs.Items.{start-blind}

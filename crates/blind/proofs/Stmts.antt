@@ -1,6 +1,7 @@
 -- The rules on statements are blind to what the lent buffers held, where the rules handed over are.
 use mathlib.Core.Bool.{true, false}
 use Prim.Native.Nat.{ℕ}
+use lib.ListN.{getD}
 use lib.Dec.{ltb, eqb}
 use Rattle.kinds.specs.Number as kind
 use Rattle.cursor.specs.declared.Kids.{Kids}
@@ -19,9 +20,9 @@ use Rattle.parts.specs.declared.values.AssignLeft.the-variants as assigns
 use Rattle.parts.specs.Values.{toAssignLeft, rowWith, uncounted}
 use Rattle.parts.specs.When.{failWith}
 use Rattle.parts.specs.Steps.{alone, operatorOf}
-use Rattle.exprs.specs.Inner.{Inner}
-use Rattle.exprs.specs.Statements.{stmtChain, gloChain, signChain, right, setTo, set, typed, leftOf, leftTurn, lefts, rightTurn, rights, multiTo, multi, assign, gloBy, glo, plain, functionStmt, stmt}
-use Rattle.exprs.specs.Body.{stmtOr, bodyTurn, body}
+use Rattle.rules.specs.Inner.{Inner}
+use Rattle.rules.specs.Statements.{stmtChain, gloChain, signChain, right, setTo, set, typed, leftOf, leftTurn, lefts, rightTurn, rights, multiTo, multi, assign, gloBy, glo, plain, functionStmt, stmt}
+use Rattle.rules.specs.Body.{stmtOr, bodyTurn, body}
 use Rattle.blind.proofs.Blind.{Blind, gives, ifs, binds, thens, attempts, loops}
 use Rattle.blind.proofs.Cursor.{bump-blind, check-blind, eat-blind, unexpected-blind, expect-blind, eat-range-blind, pick-blind, eat-eol-blind, add-blind, recovers}
 use Rattle.blind.proofs.Items.{start-blind, close-blind, pair-blind}
@@ -46,14 +47,14 @@ module _ {r : Inner} (x : Handed r) where
   unfolding right
   right-blind from k op link = binds (expr-blind x true) (λ value. couple-blind k from op link value)
 
-  set-to-blind : (from which : ℕ) (l : AssignLeft) → Blind (setTo r from which l)
+  set-to-blind : (from sign : ℕ) (l : AssignLeft) → Blind (setTo r from sign l)
   unfolding setTo
-  set-to-blind from which (assigns.To link) = thens (bump-blind (r .sheet)) (ifs (eqb which 2) (right-blind from node.Assign 0 link) (right-blind from node.AssignOp (operatorOf which) link))
-  set-to-blind from which assigns.Nothing = unexpected-blind (r .sheet)
+  set-to-blind from sign (assigns.To link) = thens (bump-blind (r .sheet)) (ifs (eqb sign kind.Assign) (right-blind from node.Assign 0 link) (right-blind from node.AssignOp (operatorOf sign) link))
+  set-to-blind from sign assigns.Nothing = unexpected-blind (r .sheet)
 
-  set-blind : (from which : ℕ) (a : Expr) → Blind (set r from which a)
+  set-blind : (from sign : ℕ) (a : Expr) → Blind (set r from sign a)
   unfolding set
-  set-blind from which a = set-to-blind from which (toAssignLeft a)
+  set-blind from sign a = set-to-blind from sign (toAssignLeft a)
 
   typed-blind : (from : ℕ) (a : Expr) → Blind (typed r from a)
   unfolding typed
@@ -104,7 +105,7 @@ module _ {r : Inner} (x : Handed r) where
 
   assign-blind : (from : ℕ) → Blind (assign r from)
   unfolding assign
-  assign-blind from = binds (x .prec 1 true) (λ a. binds (pick-blind (r .sheet) signChain 0) (λ which. ifs (eqb which 0) (multi-blind from a) (ifs (eqb which 1) (typed-blind from a) (ifs (ltb 7 which) gives (set-blind from which a)))))
+  assign-blind from = binds (x .prec 1 true) (λ a. binds (pick-blind (r .sheet) signChain 0) (λ which. ifs (eqb which 0) (multi-blind from a) (ifs (eqb which 1) (typed-blind from a) (ifs (ltb 7 which) gives (set-blind from (getD signChain which 0) a)))))
 
   glo-by-blind : (from : ℕ) (here : Ranged) (which : ℕ) → Blind (gloBy r from here which)
   unfolding gloBy

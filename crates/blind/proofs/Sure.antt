@@ -20,10 +20,10 @@ use Rattle.cursor.specs.Attempts.{unbuilt, recover}
 use Rattle.cursor.proofs.Ends.{Ends, well, ill, cut, Any, branch, then, either}
 use Rattle.types.specs.Items.{start, addSome}
 use Rattle.parts.specs.Recovery.{skipTurn, skip, skipped, recovering, logHere, lineEnd, afterStmt}
-use Rattle.exprs.specs.Inner.{Inner}
-use Rattle.exprs.specs.Statements.{stmt}
-use Rattle.exprs.specs.Body.{stmtOr, bodyTurn, body}
-use Rattle.exprs.specs.Levels.{knot, levels, programRecord, program}
+use Rattle.rules.specs.Inner.{Inner}
+use Rattle.rules.specs.Statements.{stmt}
+use Rattle.rules.specs.Body.{stmtOr, bodyTurn, body}
+use Rattle.rules.specs.Levels.{knot, levels, programRecord, program}
 
 -- done or refused, no fault
 abbrev pub Clean : {A : Type 0} → Out A → Type 0

@@ -1,14 +1,2 @@
-pub mod AtomPaths
-pub mod BodyTakes
-pub mod ExprStays
-pub mod LevelPaths
-pub mod PrecedencePaths
-pub mod PrimaryPaths
-pub mod RecordStays
-pub mod StatementPaths
-pub mod Stays
-pub mod StmtStays
 pub mod Suffixes
-pub mod TablePaths
-pub mod Takes
 pub mod Unique

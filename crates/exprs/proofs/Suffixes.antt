@@ -19,9 +19,9 @@ use Rattle.cursor.specs.Node as node
 use Rattle.parts.specs.Values.{linkOf, rowOf}
 use Rattle.parts.specs.Records.{callRecord}
 use Rattle.parts.specs.Steps.{braced, noMember}
-use Rattle.exprs.specs.Blocks.{block}
-use Rattle.exprs.specs.Inner.{Inner}
-use Rattle.exprs.specs.Primary.{memberChain, access, postfixTurn}
+use Rattle.rules.specs.Blocks.{block}
+use Rattle.rules.specs.Inner.{Inner}
+use Rattle.rules.specs.Primary.{memberChain, access, postfixTurn}
 use Rattle.exprs.specs.Suffix.{suffixes, isSuffix, noSuffix}
 
 -- the ways through `noSuffix`

@@ -1,11 +1,1 @@
-pub mod Inner
-pub mod Blocks
-pub mod Functions
-pub mod Tables
-pub mod Primary
 pub mod Suffix
-pub mod Atoms
-pub mod Precedence
-pub mod Statements
-pub mod Body
-pub mod Levels

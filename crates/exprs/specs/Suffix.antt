@@ -7,7 +7,7 @@ use Rattle.cursor.specs.Sheet.{Sheet}
 use Rattle.cursor.specs.Rule.{Rule, _>>=_, _>>_, give}
 use Rattle.cursor.specs.Checks.{isIn, pick}
 use Rattle.parts.specs.declared.values.Expr.{Expr}
-use Rattle.exprs.specs.Primary.{memberChain}
+use Rattle.rules.specs.Primary.{memberChain}
 
 -- the kinds that they begin with, in the order in which they are looked for; a brace only where a trailing lambda may stand
 abbrev pub suffixes : Bool → List ℕ

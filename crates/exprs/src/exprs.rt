@@ -7,15 +7,15 @@ ghost use Rattle.cursor.specs.Rule.{world};
 ghost use Rattle.cursor.specs.Answers.{asBuilt};
 ghost use Rattle.types.specs.Answers.{asListed};
 ghost use Rattle.parts.specs.Answers.{asParsed, asRowed, asChained};
-ghost use Rattle.exprs.specs.Levels.{under};
-ghost use Rattle.exprs.specs.Inner.{expr};
-ghost use Rattle.exprs.specs.Blocks.{block, andBlock};
-ghost use Rattle.exprs.specs.Functions.{function, fnStmt};
-ghost use Rattle.exprs.specs.Precedence.{infixTurn, unary, tried, handler};
-ghost use Rattle.exprs.specs.Primary.{postfixTurn, call, access, member};
-ghost use Rattle.exprs.specs.Tables.{key, item, itemsOf, table, brace};
-ghost use Rattle.exprs.specs.Atoms.{group, anon, ifElse, cases, matchCase, loops, form, atom, primary};
-ghost use Rattle.exprs.specs.Statements.{right, set, lefts, rights, multi, typed, assign, glo, plain, stmt};
+ghost use Rattle.rules.specs.Levels.{under};
+ghost use Rattle.rules.specs.Inner.{expr};
+ghost use Rattle.rules.specs.Blocks.{block, andBlock};
+ghost use Rattle.rules.specs.Functions.{function, fnStmt};
+ghost use Rattle.rules.specs.Precedence.{infixTurn, unary, tried, handler};
+ghost use Rattle.rules.specs.Primary.{postfixTurn, call, access, member};
+ghost use Rattle.rules.specs.Tables.{key, item, itemsOf, table, brace};
+ghost use Rattle.rules.specs.Atoms.{group, anon, ifElse, cases, matchCase, loops, form, atom, primary};
+ghost use Rattle.rules.specs.Statements.{right, set, lefts, rights, multi, typed, assign, glo, plain, stmt};
 use crate::suffix::is_suffix;
 use crate::suffix::no_suffix;
 use cursor::Built;
@@ -45,6 +45,7 @@ use cursor::tokens::eat_eol;
 use cursor::tokens::start_range;
 use kinds::Operator;
 use parts::effects::effect_stmt;
+use parts::forms;
 use parts::imports::import_stmt;
 use parts::records::atom_expr;
 use parts::records::block_record;
@@ -1137,7 +1138,7 @@ fn form(
     ensures { λ r. ⌜ asBuilt r (world (now (nodes .exit)) (now (errors .exit)) (now (wanted .exit)) (now (live .exit))) ≡ form (under (now (text .entry)) (now (tokens .entry)) left) from which s (world (now (nodes .entry)) (now (errors .entry)) (now (wanted .entry)) (now (live .entry))) ⌝ }
 {
     let limits = left.limits;
-    if which == 0 {
+    if which == forms::OPEN_PAREN {
         return group(
             text,
             tokens,
@@ -1151,13 +1152,13 @@ fn form(
             which,
         );
     }
-    if which == 1 {
+    if which == forms::IDENT {
         return ident(tokens, nodes, live, limits, s);
     }
-    if which == 2 {
+    if which == forms::OPEN_BRACE {
         return brace(text, tokens, nodes, errors, wanted, live, left, s, from);
     }
-    if which == 3 {
+    if which == forms::OPEN_BRACKET {
         return group(
             text,
             tokens,
@@ -1171,7 +1172,7 @@ fn form(
             which,
         );
     }
-    if which < 7 {
+    if which < forms::IF {
         return anon(
             text,
             tokens,
@@ -1185,13 +1186,13 @@ fn form(
             which,
         );
     }
-    if which == 7 {
+    if which == forms::IF {
         return cond(text, tokens, nodes, errors, wanted, live, left, s, from);
     }
-    if which == 8 {
+    if which == forms::MATCH {
         return arms(text, tokens, nodes, errors, wanted, live, left, s, from);
     }
-    if which < 12 {
+    if which < forms::BREAK {
         return loops(
             text,
             tokens,
@@ -1205,10 +1206,10 @@ fn form(
             which,
         );
     }
-    if which < 14 {
+    if which < forms::RETURN {
         return leaf(tokens, nodes, limits, s, from, which);
     }
-    if which == 14 {
+    if which == forms::RETURN {
         return group(
             text,
             tokens,
@@ -1246,7 +1247,7 @@ fn group(
         Moved::On(t) => t,
         Moved::Failed(f) => return Built::Failed(f),
     };
-    if which == 3 {
+    if which == forms::OPEN_BRACKET {
         let listed = items(
             text,
             tokens,
@@ -1271,7 +1272,7 @@ fn group(
         }
         Built::Failed(f) => return Built::Failed(f),
     }
-    if which == 14 {
+    if which == forms::RETURN {
         return close(nodes, s2, nodes::RETURN, from, 0, 0, 0, link);
     }
     let closed = expect(tokens, live, limits, s2, kinds::CLOSE_PAREN);
@@ -1297,7 +1298,7 @@ fn anon(
     ensures { λ r. ⌜ asBuilt r (world (now (nodes .exit)) (now (errors .exit)) (now (wanted .exit)) (now (live .exit))) ≡ anon (under (now (text .entry)) (now (tokens .entry)) left) from which s (world (now (nodes .entry)) (now (errors .entry)) (now (wanted .entry)) (now (live .entry))) ⌝ }
 {
     let limits = left.limits;
-    if which == 5 {
+    if which == forms::V_BAR {
         let shut = func(
             text,
             tokens,
@@ -1317,7 +1318,7 @@ fn anon(
         Moved::On(t) => t,
         Moved::Failed(f) => return Built::Failed(f),
     };
-    if which == 4 {
+    if which == forms::FN {
         let plain = func(
             text,
             tokens,
@@ -1550,7 +1551,7 @@ fn loops(
         Moved::On(t) => t,
         Moved::Failed(f) => return Built::Failed(f),
     };
-    if which == 9 {
+    if which == forms::LOOP {
         let body = block(text, tokens, nodes, errors, wanted, live, left, s1, 0);
         return loop_record(nodes, from, body);
     }
@@ -1978,6 +1979,7 @@ fn assign(
     if 7 < which {
         return Built::Node(s2, link_of(x));
     }
+    let sign = chain[which];
     set(
         text,
         tokens,
@@ -1988,12 +1990,12 @@ fn assign(
         left,
         s2,
         from,
-        which,
+        sign,
         x,
     )
 }
 
-// An assignment, with an operator or without, whose sign stands here.
+// An assignment, with an operator or without, whose sign of this kind stands here.
 fn set(
     text: &[u8],
     tokens: &[u32],
@@ -2004,10 +2006,10 @@ fn set(
     left: Left,
     s: State,
     from: u32,
-    which: usize,
+    sign: u8,
     x: Expr,
 ) -> Built
-    ensures { λ r. ⌜ asBuilt r (world (now (nodes .exit)) (now (errors .exit)) (now (wanted .exit)) (now (live .exit))) ≡ set (under (now (text .entry)) (now (tokens .entry)) left) from which x s (world (now (nodes .entry)) (now (errors .entry)) (now (wanted .entry)) (now (live .entry))) ⌝ }
+    ensures { λ r. ⌜ asBuilt r (world (now (nodes .exit)) (now (errors .exit)) (now (wanted .exit)) (now (live .exit))) ≡ set (under (now (text .entry)) (now (tokens .entry)) left) from sign x s (world (now (nodes .entry)) (now (errors .entry)) (now (wanted .entry)) (now (live .entry))) ⌝ }
 {
     let limits = left.limits;
     let to = to_assign_left(x);
@@ -2020,7 +2022,7 @@ fn set(
         Moved::On(t) => t,
         Moved::Failed(f) => return Built::Failed(f),
     };
-    if which == 2 {
+    if sign == kinds::ASSIGN {
         return rhs(
             text,
             tokens,
@@ -2047,7 +2049,7 @@ fn set(
         s1,
         from,
         nodes::ASSIGN_OP,
-        operator_of(which),
+        operator_of(sign),
         link,
     )
 }

@@ -2,7 +2,7 @@
 ghost use mathlib.Core.Path.{_≡_};
 ghost use Rattle.cursor.specs.Rule.{world};
 ghost use Rattle.cursor.specs.Answers.{asBuilt};
-ghost use Rattle.exprs.specs.Levels.{under, program};
+ghost use Rattle.rules.specs.Levels.{under, program};
 ghost use Prim.Native.Nat.{max};
 use crate::exprs::exprs;
 use cursor::Built;

@@ -22,13 +22,13 @@ use Rattle.parts.specs.declared.values.Expr.the-variants as exprs
 use Rattle.parts.specs.Values.{linkOf, rowOf}
 use Rattle.parts.specs.Records.{listRecord, handlersFlagged, roundRecord, callRecord}
 use Rattle.parts.specs.Steps.{itemsEnd, anyParams, braced, noMember, metaEnd, litKey, parenKeyAt, parenKey, leaf}
-use Rattle.exprs.specs.Inner.{Inner, expr}
-use Rattle.exprs.specs.Blocks.{block, andBlock}
-use Rattle.exprs.specs.Functions.{function, fnStmt}
-use Rattle.exprs.specs.Tables.{key, property, item, itemsOf, table, braceBlock, tableOrBlock, brace}
-use Rattle.exprs.specs.Primary.{member, access, call, postfixTurn, primaryOf}
-use Rattle.exprs.specs.Atoms.{group, doFunction, anonFunction, anon, alternate, ifElse, matchCase, caseTurn, cases, loops as loops-rule, form, atom, primary}
-use Rattle.exprs.specs.Precedence.{handler, handlerTurn, triedBy, tried, negated, unary, operated, infixBy, infixTurn, precedence}
+use Rattle.rules.specs.Inner.{Inner, expr}
+use Rattle.rules.specs.Blocks.{block, andBlock}
+use Rattle.rules.specs.Functions.{function, fnStmt}
+use Rattle.rules.specs.Tables.{key, property, item, itemsOf, table, braceBlock, tableOrBlock, brace}
+use Rattle.rules.specs.Primary.{member, access, call, postfixTurn, primaryOf}
+use Rattle.rules.specs.Atoms.{group, doFunction, anonFunction, anon, alternate, ifElse, matchCase, caseTurn, cases, loops as loops-rule, form, atom, primary}
+use Rattle.rules.specs.Precedence.{handler, handlerTurn, triedBy, tried, negated, unary, operated, infixBy, infixTurn, precedence}
 use Rattle.grammar.proofs.KeepsRow.{ExprFor, link-fresh, fails, closes, adds, begins, couple-keeps, row-record-keeps, block-record-keeps, fn-record-keeps, function-record-keeps, handler-record-keeps, if-record-keeps, call-record-keeps, member-record-keeps, joins, loop-names-keep, case-patterns-keep, type-check-keeps, until-keeps}
 
 -- what the rules that are handed over keep, and that their answers were made since the mark

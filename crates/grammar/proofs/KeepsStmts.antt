@@ -26,11 +26,11 @@ use Rattle.parts.specs.Values.{toAssignLeft}
 use Rattle.parts.specs.Effects.{effectRecord, effectStmt}
 use Rattle.parts.specs.Imports.{importItem, importItems, importEnd, importTail, pathTurn, importStmt}
 use Rattle.parts.specs.Recovery.{skipTurn, skip, skipped, logHere, lineEnd, afterStmt}
-use Rattle.exprs.specs.Inner.{Inner}
-use Rattle.exprs.specs.Tables.{key}
-use Rattle.exprs.specs.Statements.{right, setTo, set, typed, leftOf, leftTurn, lefts, rightTurn, rights, multiTo, multi, assign, gloBy, glo, plain as plain-rule, functionStmt, stmt}
-use Rattle.exprs.specs.Body.{stmtOr, bodyTurn, body}
-use Rattle.exprs.specs.Levels.{knot, levels}
+use Rattle.rules.specs.Inner.{Inner}
+use Rattle.rules.specs.Tables.{key}
+use Rattle.rules.specs.Statements.{right, setTo, set, typed, leftOf, leftTurn, lefts, rightTurn, rights, multiTo, multi, assign, gloBy, glo, plain as plain-rule, functionStmt, stmt}
+use Rattle.rules.specs.Body.{stmtOr, bodyTurn, body}
+use Rattle.rules.specs.Levels.{knot, levels}
 use Rattle.grammar.proofs.KeepsRow.{ExprFor, link-fresh, fails, closes, adds, adds-some, begins, couple-keeps, row-record-keeps, until-keeps}
 use Rattle.grammar.proofs.KeepsExprs.{Guards, expr-keeps, fn-stmt-keeps, key-keeps as key-guards, precedence-keeps}
 
@@ -106,10 +106,10 @@ module _ {m : Mark} {r : Inner} (h : Guards m r) where
   unfolding right
   right-keeps from k op link f = binds (expr-keeps h true) (λ value g. couple-keeps k from op link value f g)
 
-  set-keeps : (from which : ℕ) (l : AssignLeft) → LeftFor m l → Keeps m (Fresh m) (setTo r from which l)
+  set-keeps : (from sign : ℕ) (l : AssignLeft) → LeftFor m l → Keeps m (Fresh m) (setTo r from sign l)
   unfolding setTo
-  set-keeps from which (assigns.To link) f = thens (bump-keeps _) (ifs (eqb which 2) (right-keeps _ _ _ _ f) (right-keeps _ _ _ _ f))
-  set-keeps from which assigns.Nothing f = unexpected-keeps _
+  set-keeps from sign (assigns.To link) f = thens (bump-keeps _) (ifs (eqb sign kind.Assign) (right-keeps _ _ _ _ f) (right-keeps _ _ _ _ f))
+  set-keeps from sign assigns.Nothing f = unexpected-keeps _
 
   typed-assign-keeps : (from : ℕ) (x : Expr) → ExprFor m x → Keeps m (Fresh m) (typed r from x)
   unfolding typed
@@ -137,7 +137,7 @@ module _ {m : Mark} {r : Inner} (h : Guards m r) where
 
   assign-keeps : (from : ℕ) → Keeps m (Fresh m) (assign r from)
   unfolding assign multi set
-  assign-keeps from = binds (h .prec 1 true) (λ x g. binds (pick-keeps _ _ 0) (λ which _. ifs (eqb which 0) (multi-keeps from _ (left-fresh m x g)) (ifs (eqb which 1) (typed-assign-keeps from x g) (ifs (ltb 7 which) (gives (link-fresh m x g)) (set-keeps from which _ (left-fresh m x g))))))
+  assign-keeps from = binds (h .prec 1 true) (λ x g. binds (pick-keeps _ _ 0) (λ which _. ifs (eqb which 0) (multi-keeps from _ (left-fresh m x g)) (ifs (eqb which 1) (typed-assign-keeps from x g) (ifs (ltb 7 which) (gives (link-fresh m x g)) (set-keeps from _ _ (left-fresh m x g))))))
 
   -- statements
   glo-keeps : (from : ℕ) → Keeps m (Fresh m) (glo r from)

@@ -5,7 +5,7 @@ use mathlib.Core.List.{List}
 use mathlib.Core.Bool.{Bool, true, false}
 use Prim.Native.Nat.{ℕ, suc, _+_, _*_, _^_, _<_, max}
 use native.Mathlib.Omega.{arith}
-use lib.ListN.{length}
+use lib.ListN.{getD, length}
 use lib.Dec.{ltb, eqb}
 use borrow.Author.Tests.{lt-ltb, le-ltb}
 use Rattle.kinds.specs.Number as kind
@@ -20,9 +20,9 @@ use Rattle.parts.specs.declared.values.AssignLeft.the-variants as assigns
 use Rattle.parts.specs.Values.{rowWith, uncounted}
 use Rattle.parts.specs.When.{when}
 use Rattle.parts.specs.Steps.{operatorOf}
-use Rattle.exprs.specs.Statements.{signChain, right, setTo, set, typed as typedRule, leftOf, leftTurn, lefts, rightTurn, rights, multiTo, multi as multiRule, assign as assignRule}
-use Rattle.exprs.specs.Levels.{levels}
-use Rattle.exprs.proofs.Takes.{left-turn-takes, right-turn-takes}
+use Rattle.rules.specs.Statements.{signChain, right, setTo, set, typed as typedRule, leftOf, leftTurn, lefts, rightTurn, rights, multiTo, multi as multiRule, assign as assignRule}
+use Rattle.rules.specs.Levels.{levels}
+use Rattle.rules.proofs.Takes.{left-turn-takes, right-turn-takes}
 use Rattle.grammar.specs.Places.{Place, after, Tok, Here, Not, Free}
 use Rattle.grammar.specs.Symbols.{Form, Name, NameMember, Call, Other, Assignable, a-name, a-member, Ty, Lefts, Rights, Expr as Whole, Prec}
 use Rattle.grammar.specs.Derives.{Derives, Compound, adding, subtracting, multiplying, dividing, remaining, signs, no-left, a-left, no-right, a-right}
@@ -113,14 +113,14 @@ module _ {e : Sheet} {d : ℕ} (h : Handed e d) where
   right-meets D from k op link = fits (omega arith) (omega arith) (omega arith) (next (exprs-meet h D) (λ value _. couple-meets _ _ _ _ _))
 
   -- an assignment from its sign on, which is taken without being looked at again
-  set-meets : {p q r : Place} → after p ≡ q → (D : Derives (e .text) (Whole true) q r) (from which link : ℕ)
-      → Meets e d p r (record { reads = taken p + cost D; nodes = records D + 1; need = need D }) Any (setTo (levels e d) from which (assigns.To link))
+  set-meets : {p q r : Place} → after p ≡ q → (D : Derives (e .text) (Whole true) q r) (from sign link : ℕ)
+      → Meets e d p r (record { reads = taken p + cost D; nodes = records D + 1; need = need D }) Any (setTo (levels e d) from sign (assigns.To link))
   unfolding setTo
-  set-meets {q = q} {r = r} t D from which link = fits (omega arith) (omega arith) (omega arith) (bumps t (by (eqb which 2)))
+  set-meets {q = q} {r = r} t D from sign link = fits (omega arith) (omega arith) (omega arith) (bumps t (by (eqb sign kind.Assign)))
     where
-      by : (b : Bool) → Meets e d q r (record { reads = cost D; nodes = records D + 1; need = need D }) Any (when b (right (levels e d) from node.Assign 0 link) (right (levels e d) from node.AssignOp (operatorOf which) link))
+      by : (b : Bool) → Meets e d q r (record { reads = cost D; nodes = records D + 1; need = need D }) Any (when b (right (levels e d) from node.Assign 0 link) (right (levels e d) from node.AssignOp (operatorOf sign) link))
       by true = right-meets D from node.Assign 0 link
-      by false = right-meets D from node.AssignOp (operatorOf which) link
+      by false = right-meets D from node.AssignOp (operatorOf sign) link
 
   -- behind a plain name: a Colon, a type, and the assignment
   typed-rest : {p q r s t : Place} → Tok kind.Colon p q → (T : Derives (e .text) Ty q r) → Tok kind.Assign r s → (D : Derives (e .text) (Whole true) s t) (from name : ℕ)
@@ -153,8 +153,8 @@ module _ {e : Sheet} {d : ℕ} (h : Handed e d) where
       unfolding assignRule set
       set-by {k = k} {q = q} {s = s} i j l D a t E = next-left _ D a (λ link. picks _ signChain (t .here) (not-so _ i (not-so _ j (not-so _ l (sets link))))) (λ link. picks _ signChain (t .here) (not-so _ i (not-so _ j (not-so _ l (sets link)))))
         where
-          sets : (link : ℕ) → Meets e d q s (record { reads = taken q + cost E; nodes = records E + 1; need = need E }) Any (setTo (levels e d) from (position k signChain) (assigns.To link))
-          sets link = set-meets (t .next) E from (position k signChain) link
+          sets : (link : ℕ) → Meets e d q s (record { reads = taken q + cost E; nodes = records E + 1; need = need E }) Any (setTo (levels e d) from (getD signChain (position k signChain) 0) (assigns.To link))
+          sets link = set-meets (t .next) E from (getD signChain (position k signChain) 0) link
 
       pub assign-meets : {f : Form} {p q r s : Place} (D : Derives (e .text) (Prec 0 true f) p q) → Assignable f → Tok kind.Assign q r → (E : Derives (e .text) (Whole true) r s)
           → Meets e d p s (inside (costOf D) ⊕ record { reads = taken q + cost E; nodes = records E + 1; need = need E }) Any (assignRule (levels e d) from)

@@ -15,9 +15,9 @@ use Rattle.cursor.specs.Records.{noKids}
 use Rattle.parts.specs.Values.{atomExpr, rowOf}
 use Rattle.parts.specs.Records.{ifRecord}
 use Rattle.parts.specs.Steps.{leaf, loopNames}
-use Rattle.exprs.specs.Atoms.{atomChain, group as groupRule, doFunction, anonFunction, anon, alternate, ifElse, matchCase, caseTurn, cases, loops, form, atom}
-use Rattle.exprs.specs.Levels.{levels}
-use Rattle.exprs.proofs.Takes.{case-turn-takes}
+use Rattle.rules.specs.Atoms.{atomChain, group as groupRule, doFunction, anonFunction, anon, alternate, ifElse, matchCase, caseTurn, cases, loops, form, atom}
+use Rattle.rules.specs.Levels.{levels}
+use Rattle.rules.proofs.Takes.{case-turn-takes}
 use Rattle.grammar.specs.Places.{Place, kindOf, Not, Free}
 use Rattle.grammar.specs.Symbols.{Form, Eols, Alternate, Cases, Case, Atom}
 use Rattle.grammar.specs.Derives.{

@@ -7,12 +7,12 @@ use Rattle.kinds.specs.Number as kind
 use Rattle.cursor.specs.declared.Kids.{Kids}
 use Rattle.cursor.specs.Sheet.{Sheet}
 use Rattle.parts.specs.Steps.{itemsEnd}
-use Rattle.exprs.specs.Inner.{expr}
-use Rattle.exprs.specs.Blocks.{block, andBlock}
-use Rattle.exprs.specs.Functions.{function}
-use Rattle.exprs.specs.Tables.{item, itemsOf, brace}
-use Rattle.exprs.specs.Levels.{levels}
-use Rattle.exprs.proofs.Takes.{until-turn-takes}
+use Rattle.rules.specs.Inner.{expr}
+use Rattle.rules.specs.Blocks.{block, andBlock}
+use Rattle.rules.specs.Functions.{function}
+use Rattle.rules.specs.Tables.{item, itemsOf, brace}
+use Rattle.rules.specs.Levels.{levels}
+use Rattle.rules.proofs.Takes.{until-turn-takes}
 use Rattle.grammar.specs.Places.{Place, Tok, Not}
 use Rattle.grammar.specs.Symbols.{Form, Eols, Until, NoLast, Body, Block, Function, Expr, Prec, Property}
 use Rattle.grammar.specs.Derives.{Derives, block-of, function-of, expr-of, table, block-expr}

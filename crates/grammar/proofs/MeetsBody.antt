@@ -11,9 +11,9 @@ use Rattle.cursor.specs.Sheet.{Sheet}
 use Rattle.cursor.specs.Rule.{give, iterate}
 use Rattle.cursor.specs.Records.{noKids}
 use Rattle.parts.specs.Recovery.{skipped, lineEnd, afterStmt}
-use Rattle.exprs.specs.Body.{stmtOr, bodyTurn, body}
-use Rattle.exprs.specs.Levels.{levels}
-use Rattle.exprs.proofs.BodyTakes.{body-turn-takes}
+use Rattle.rules.specs.Body.{stmtOr, bodyTurn, body}
+use Rattle.rules.specs.Levels.{levels}
+use Rattle.rules.proofs.BodyTakes.{body-turn-takes}
 use Rattle.grammar.specs.Places.{Place, Tok}
 use Rattle.grammar.specs.Symbols.{Body, Stmts, Stmt}
 use Rattle.grammar.specs.Derives.{Derives, body-of, no-stmt, last-stmt, a-line}

@@ -5,7 +5,7 @@ use native.Mathlib.Omega.{arith}
 use lib.ListN.{length}
 use Rattle.kinds.specs.Number as kind
 use Rattle.cursor.specs.Sheet.{Sheet}
-use Rattle.exprs.specs.Levels.{knot, levels}
+use Rattle.rules.specs.Levels.{knot, levels}
 use Rattle.grammar.specs.Places.{Place}
 use Rattle.grammar.specs.Symbols.{Body}
 use Rattle.grammar.specs.Derives.{Derives}

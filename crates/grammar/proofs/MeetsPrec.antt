@@ -19,9 +19,9 @@ use Rattle.parts.specs.declared.values.Expr.{Expr}
 use Rattle.parts.specs.declared.steps.Checked.the-variants as checked
 use Rattle.parts.specs.Values.{linkOf}
 use Rattle.parts.specs.Steps.{checkedType, typeChecked, typeCheckAt, typeCheck}
-use Rattle.exprs.specs.Precedence.{operated, infixBy, infixTurn, precedence}
-use Rattle.exprs.specs.Levels.{levels}
-use Rattle.exprs.proofs.Takes.{infix-turn-takes}
+use Rattle.rules.specs.Precedence.{operated, infixBy, infixTurn, precedence}
+use Rattle.rules.specs.Levels.{levels}
+use Rattle.rules.proofs.Takes.{infix-turn-takes}
 use Rattle.grammar.specs.Places.{Place, kindOf, spanOf, startOf, after}
 use Rattle.grammar.specs.Symbols.{Form, Other, Prec, Ops}
 use Rattle.grammar.specs.Derives.{Derives, prec-of, no-op, binary, type-check}

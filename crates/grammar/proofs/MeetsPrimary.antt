@@ -17,10 +17,10 @@ use Rattle.parts.specs.Values.{linkOf, rowOf}
 use Rattle.parts.specs.When.{when}
 use Rattle.parts.specs.Records.{memberRecord}
 use Rattle.parts.specs.Steps.{braced, noMember, metaEnd}
-use Rattle.exprs.specs.Primary.{memberChain, member as memberRule, access, call as callRule, postfixTurn, primaryOf}
-use Rattle.exprs.specs.Atoms.{primary}
-use Rattle.exprs.specs.Levels.{levels}
-use Rattle.exprs.proofs.Takes.{postfix-turn-takes}
+use Rattle.rules.specs.Primary.{memberChain, member as memberRule, access, call as callRule, postfixTurn, primaryOf}
+use Rattle.rules.specs.Atoms.{primary}
+use Rattle.rules.specs.Levels.{levels}
+use Rattle.rules.proofs.Takes.{postfix-turn-takes}
 use Rattle.grammar.specs.Places.{Place, Here, Not, from-all}
 use Rattle.grammar.specs.Symbols.{Form, Call, Until, NoLast, Block, Primary, Posts, Member, Expr as Whole}
 use Rattle.grammar.specs.Derives.{Derives, NoLambda, no-brace, not-taken, primary-of, no-post, call, call-lambda, lambda-alone, member, safe-member, bracket, dot, double-colon, bracket-meta, dot-meta, double-colon-meta}

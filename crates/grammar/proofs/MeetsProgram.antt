@@ -10,7 +10,7 @@ use Rattle.cursor.specs.declared.State.{State}
 use Rattle.cursor.specs.declared.Kids.{Kids}
 use Rattle.cursor.specs.Sheet.{Sheet}
 use Rattle.cursor.specs.Rule.{World, refusal, refused, Out, done, failed, _>>=_}
-use Rattle.exprs.specs.Levels.{levels, programRecord, program}
+use Rattle.rules.specs.Levels.{levels, programRecord, program}
 use Rattle.grammar.specs.Places.{Place, before, opening}
 use Rattle.grammar.specs.Follows.{Follows}
 use Rattle.grammar.proofs.Links.{calm-settle, placeAt}

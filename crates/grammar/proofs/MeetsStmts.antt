@@ -13,9 +13,9 @@ use Rattle.cursor.specs.Sheet.{Sheet, rangeAt}
 use Rattle.cursor.specs.Rule.{World, _>>=_}
 use Rattle.cursor.specs.Checks.{pick}
 use Rattle.types.specs.Lits.{identAt, ident}
-use Rattle.exprs.specs.Functions.{fnStmt}
-use Rattle.exprs.specs.Statements.{stmtChain, gloChain, assign as assignRule, gloBy, glo, plain as plainRule, functionStmt, stmt}
-use Rattle.exprs.specs.Levels.{levels}
+use Rattle.rules.specs.Functions.{fnStmt}
+use Rattle.rules.specs.Statements.{stmtChain, gloChain, assign as assignRule, gloBy, glo, plain as plainRule, functionStmt, stmt}
+use Rattle.rules.specs.Levels.{levels}
 use Rattle.grammar.specs.Places.{Place, after, Tok, Here, Not, Free, from-none, from-all}
 use Rattle.grammar.specs.Symbols.{Form, Ident, Stmt, Function, Prec}
 use Rattle.grammar.specs.Derives.{Derives, fn-stmt, import-stmt, effect-stmt, glo-fn, glo-effect, glo-assign, plain, assign, typed-assign, op-assign, unpack, multi}

@@ -17,9 +17,9 @@ use Rattle.types.specs.Lits.{literal, litFrom, litAt, lit}
 use Rattle.parts.specs.Values.{rowWith}
 use Rattle.parts.specs.Records.{listRecord, wrapped, blockRecord}
 use Rattle.parts.specs.Steps.{itemsEnd, litKey, parenKeyAt, parenKey}
-use Rattle.exprs.specs.Tables.{key, property as propertyRule, item, itemsOf, table as tableRule, braceBlock, tableOrBlock, brace}
-use Rattle.exprs.specs.Levels.{levels}
-use Rattle.exprs.proofs.Takes.{until-turn-takes}
+use Rattle.rules.specs.Tables.{key, property as propertyRule, item, itemsOf, table as tableRule, braceBlock, tableOrBlock, brace}
+use Rattle.rules.specs.Levels.{levels}
+use Rattle.rules.proofs.Takes.{until-turn-takes}
 use Rattle.grammar.specs.Places.{Place, kindOf, Tok, Not}
 use Rattle.grammar.specs.Symbols.{Eols, Until, NoLast, Body, Expr, Key, Property}
 use Rattle.grammar.specs.Derives.{Derives, until-of, items-end, items-final, items-comma, table, block-expr, property, group-key, literal-key}

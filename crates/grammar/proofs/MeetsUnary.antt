@@ -11,9 +11,9 @@ use Rattle.cursor.specs.Sheet.{Sheet}
 use Rattle.cursor.specs.Rule.{iterate}
 use Rattle.parts.specs.declared.values.Expr.{Expr}
 use Rattle.parts.specs.Values.{linkOf, rowOf}
-use Rattle.exprs.specs.Precedence.{unaryChain, handler, handlerTurn, triedBy, tried as triedRule, negated as negatedRule, unary}
-use Rattle.exprs.specs.Levels.{levels}
-use Rattle.exprs.proofs.Takes.{handler-turn-takes}
+use Rattle.rules.specs.Precedence.{unaryChain, handler, handlerTurn, triedBy, tried as triedRule, negated as negatedRule, unary}
+use Rattle.rules.specs.Levels.{levels}
+use Rattle.rules.proofs.Takes.{handler-turn-takes}
 use Rattle.grammar.specs.Places.{Place, after, Tok, Free, from-none, from-all}
 use Rattle.grammar.specs.Symbols.{Form, Call, Other, Unary, Handler, Handlers, Primary}
 use Rattle.grammar.specs.Derives.{Derives, negated, minus, tried, no-unary, last-handler, more-handlers, handler-of}

@@ -13,8 +13,8 @@ use Rattle.cursor.specs.Sheet.{Sheet, count, kindAt, rangeAt}
 use Rattle.cursor.specs.Rule.{World, bind, _>>=_}
 use Rattle.cursor.specs.Tokens.{pastFrom, pastTrivia, startOf, eatTrivia, eatEol}
 use Rattle.types.specs.Items.{start}
-use Rattle.exprs.specs.Body.{body}
-use Rattle.exprs.specs.Levels.{knot, levels, programRecord, program}
+use Rattle.rules.specs.Body.{body}
+use Rattle.rules.specs.Levels.{knot, levels, programRecord, program}
 use Rattle.grammar.specs.Places.{tokensOf, before, opening}
 use Rattle.grammar.proofs.Links.{view-settle, calm-settle, placeAt}
 

@@ -4,9 +4,10 @@ use mathlib.Core.List.{List, _∷_}
 use mathlib.Core.Bool.{Bool, true, false}
 use Prim.Native.Nat.{ℕ, suc, _+_, _*_, _^_, _<_, _≤_}
 use native.Mathlib.Omega.{arith}
-use lib.ListN.{length}
+use lib.ListN.{getD, length}
 use lib.Dec.{ltb, eqb}
 use Rattle.kinds.specs.Number as kind
+use Rattle.kinds.specs.Operators.{compoundOf}
 use Rattle.cursor.specs.declared.Kids.{Kids}
 use Rattle.cursor.specs.declared.Label.{Label}
 use Rattle.cursor.specs.Node as node
@@ -27,9 +28,9 @@ use Rattle.parts.specs.Values.{linkOf, toAssignLeft, rowWith, uncounted}
 use Rattle.parts.specs.When.{when}
 use Rattle.parts.specs.Records.{couple as couple-rule, rowRecord}
 use Rattle.parts.specs.Steps.{operatorOf}
-use Rattle.exprs.specs.Statements.{signChain, right, setTo, set, typed, rightTurn, rights, multiTo, multi as multi-rule, assign as assign-rule}
-use Rattle.exprs.specs.Levels.{levels}
-use Rattle.exprs.proofs.Takes.{right-turn-takes}
+use Rattle.rules.specs.Statements.{signChain, right, setTo, set, typed, rightTurn, rights, multiTo, multi as multi-rule, assign as assign-rule}
+use Rattle.rules.specs.Levels.{levels}
+use Rattle.rules.proofs.Takes.{right-turn-takes}
 use Rattle.grammar.specs.Places.{Place, startOf, Tok, Here, from-none, from-all}
 use Rattle.grammar.specs.Symbols.{Form, Name, Assignable, a-name, a-member, Ty, Stmt, Lefts, Rights, Expr as Whole, Prec}
 use Rattle.grammar.specs.Derives.{Derives, Compound, adding, subtracting, multiplying, dividing, remaining, plain, assign, typed-assign, op-assign, unpack, multi}
@@ -48,6 +49,15 @@ use Rattle.grammar.proofs.SoundSides.{Some, some, lefts-some, Lefted, l
 use Rattle.grammar.proofs.Ahead.{ahead, fewer}
 use Rattle.grammar.proofs.FewLefts.{lefts-few, view-short}
 
+-- the operator that the rules keep of a compound assignment is the grammar's
+operator-kept : {k op : ℕ} → Compound k op → operatorOf k ≡ op
+unfolding compoundOf
+operator-kept adding = refl
+operator-kept subtracting = refl
+operator-kept multiplying = refl
+operator-kept dividing = refl
+operator-kept remaining = refl
+
 -- a right side, and the record over it and the left side below it
 pub data RightOf (text : List ℕ) (k from op a : ℕ) : Spot → Spot → ℕ → Type 0 where
   right-of : {p q : Place} {n m c last : ℕ} {xs ys : List ℕ} {l : Label} {ks : Trees} (d : Derives text (Whole true) p q) → shape d 0 blank ≡ only (tree l ks)
@@ -60,7 +70,7 @@ module _ (e : Sheet) where
   SideTo k from op assigns.Nothing = Nothing
 
   abbrev SetOf : ℕ → ℕ → Expr → Claim ℕ
-  SetOf from which x = If (eqb which 2) (SideTo node.Assign from 0 (toAssignLeft x)) (SideTo node.AssignOp from (operatorOf which) (toAssignLeft x))
+  SetOf from sign x = If (eqb sign kind.Assign) (SideTo node.Assign from 0 (toAssignLeft x)) (SideTo node.AssignOp from (operatorOf sign) (toAssignLeft x))
 
   abbrev TypedOf : ℕ → Expr → Claim ℕ
   TypedOf from (exprs.Name link) = Seq Bumped (λ _. Seq (Value (e .text) Ty) (λ t. Seq (Paired node.TypedIdent from link t) (λ both. Seq (Took kind.Assign) (λ _. RightOf (e .text) node.Assign from 0 both))))
@@ -80,7 +90,7 @@ module _ (e : Sheet) where
   MultiTo from assigns.Nothing = Nothing
 
   abbrev pub AssignOf : ℕ → Claim ℕ
-  AssignOf from = Seq (Expressed (e .text) (Prec 0 true)) (λ x. Seq (Picked signChain 0) (λ which. If (eqb which 0) (MultiTo from (toAssignLeft x)) (If (eqb which 1) (TypedOf from x) (If (ltb 7 which) (Gave (linkOf x)) (SetOf from which x)))))
+  AssignOf from = Seq (Expressed (e .text) (Prec 0 true)) (λ x. Seq (Picked signChain 0) (λ which. If (eqb which 0) (MultiTo from (toAssignLeft x)) (If (eqb which 1) (TypedOf from x) (If (ltb 7 which) (Gave (linkOf x)) (SetOf from (getD signChain which 0) x)))))
 
   module _ (d : ℕ) (prec : (n : ℕ) (lambda : Bool) → Sound e (Expressed (e .text) (Prec n lambda)) (levels e d .prec (n + 1) lambda)) where
     pub right-sound : (from k op link : ℕ) → Sound e (RightOf (e .text) k from op link) (right (levels e d) from k op link)
@@ -90,17 +100,17 @@ module _ (e : Sheet) where
         go : {u v : Spot} {a : ℕ} → Seq (Value (e .text) (Whole true)) (λ val. Seq (Added noKids link) (λ one. Seq (Added one val) (λ two. Closed k from op 0 0 (two .first)))) u v a → RightOf (e .text) k from op link u v a
         go (value {a = b} d s f ▸ added-to ▸ added-to ▸ closed o) = right-of d s (λ lo ts es st. wrapped _ (joined (added noKids link) b (f _ st)) o)
 
-    set-sound : (from which : ℕ) (x : Expr) → Sound e (SetOf from which x) (set (levels e d) from which x)
+    set-sound : (from sign : ℕ) (x : Expr) → Sound e (SetOf from sign x) (set (levels e d) from sign x)
     unfolding set setTo
-    set-sound from which x = to (toAssignLeft x)
+    set-sound from sign x = to (toAssignLeft x)
       where
-        by : (link : ℕ) (b : Bool) → Sound e (If b (SideTo node.Assign from 0 (assigns.To link)) (SideTo node.AssignOp from (operatorOf which) (assigns.To link)))
-            (bump e >> when b (right (levels e d) from node.Assign 0 link) (right (levels e d) from node.AssignOp (operatorOf which) link))
+        by : (link : ℕ) (b : Bool) → Sound e (If b (SideTo node.Assign from 0 (assigns.To link)) (SideTo node.AssignOp from (operatorOf sign) (assigns.To link)))
+            (bump e >> when b (right (levels e d) from node.Assign 0 link) (right (levels e d) from node.AssignOp (operatorOf sign) link))
         by link true = binds e (bump-sound e) (λ _. right-sound from node.Assign 0 link)
-        by link false = binds e (bump-sound e) (λ _. right-sound from node.AssignOp (operatorOf which) link)
+        by link false = binds e (bump-sound e) (λ _. right-sound from node.AssignOp (operatorOf sign) link)
 
-        to : (l : AssignLeft) → Sound e (If (eqb which 2) (SideTo node.Assign from 0 l) (SideTo node.AssignOp from (operatorOf which) l)) (setTo (levels e d) from which l)
-        to (assigns.To link) = by link (eqb which 2)
+        to : (l : AssignLeft) → Sound e (If (eqb sign kind.Assign) (SideTo node.Assign from 0 l) (SideTo node.AssignOp from (operatorOf sign) l)) (setTo (levels e d) from sign l)
+        to (assigns.To link) = by link (eqb sign kind.Assign)
         to assigns.Nothing = unexpected-sound e
 
     typed-sound : (from : ℕ) (x : Expr) → Sound e (TypedOf from x) (typed (levels e d) from x)
@@ -123,7 +133,7 @@ module _ (e : Sheet) where
 
     assign-of-sound : (from : ℕ) → Sound e (AssignOf from) (assign-rule (levels e d) from)
     unfolding assign-rule multi-rule
-    assign-of-sound from = binds e (prec 0 true) (λ x. binds e (pick-sound e signChain 0) (λ which. ifs e (eqb which 0) (multi-sound from (toAssignLeft x)) (ifs e (eqb which 1) (typed-sound from x) (ifs e (ltb 7 which) (gives e) (set-sound from which x)))))
+    assign-of-sound from = binds e (prec 0 true) (λ x. binds e (pick-sound e signChain 0) (λ which. ifs e (eqb which 0) (multi-sound from (toAssignLeft x)) (ifs e (eqb which 1) (typed-sound from x) (ifs e (ltb 7 which) (gives e) (set-sound from (getD signChain which 0) x)))))
 
   -- a first expression and what it begins
   module _ {f : Form} {p q : Place} {n m a last : ℕ} {xs ys : List ℕ} {l : Label} {ks : Trees} (b : Derives (e .text) (Prec 0 true f) p q) (s : shape b 0 blank ≡ only (tree l ks)) (push : (es : List Entry) → Stack xs n es → Stack ys m (whole n a last l ks ∷ es)) where
@@ -202,8 +212,11 @@ module _ (e : Sheet) where
         go a (r ▸ z) = several b s (λ es st. g es st .stack) few a h (lefts-read e r) z
 
     compound-read : {v : Spot} {c k op : ℕ} → Compound k op → (x : Expr) (b : Derives (e .text) (Prec 0 true (formOf x)) p q) → shape b 0 blank ≡ only (tree l ks) → ((es : List Entry) → Stack xs n es → Held ys m n last x l ks es) → Here k q
-        → SideTo node.AssignOp (startOf p) op (toAssignLeft x) (at q m ys) v c → Value (e .text) Stmt (at p n xs) v c
-    compound-read {v = v} {c = c} {op = op} z x b s g h y = by-left (λ l. SideTo node.AssignOp (startOf p) op l (at q m ys) v c) x y (λ z. z) (λ a r. compounded b s (λ es st. g es st .stack) z a h r)
+        → SideTo node.AssignOp (startOf p) (operatorOf k) (toAssignLeft x) (at q m ys) v c → Value (e .text) Stmt (at p n xs) v c
+    compound-read {v = v} {c = c} {op = op} z x b s g h y = by-left (λ l. SideTo node.AssignOp (startOf p) op l (at q m ys) v c) x kept (λ z. z) (λ a r. compounded b s (λ es st. g es st .stack) z a h r)
+      where
+        kept : SideTo node.AssignOp (startOf p) op (toAssignLeft x) (at q m ys) v c
+        kept = subst (λ o. SideTo node.AssignOp (startOf p) o (toAssignLeft x) (at q m ys) v c) (operator-kept z) y
 
     set-read : {v : Spot} {c : ℕ} (x : Expr) (b : Derives (e .text) (Prec 0 true (formOf x)) p q) → shape b 0 blank ≡ only (tree l ks) → ((es : List Entry) → Stack xs n es → Held ys m n last x l ks es) → Here kind.Assign q
         → SideTo node.Assign (startOf p) 0 (toAssignLeft x) (at q m ys) v c → Value (e .text) Stmt (at p n xs) v c

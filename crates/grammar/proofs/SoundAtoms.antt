@@ -17,10 +17,10 @@ use Rattle.parts.specs.declared.values.Expr.the-variants as forms
 use Rattle.parts.specs.Values.{atomExpr}
 use Rattle.parts.specs.Records.{listRecord}
 use Rattle.parts.specs.Steps.{leaf}
-use Rattle.exprs.specs.Inner.{expr}
-use Rattle.exprs.specs.Levels.{levels}
-use Rattle.exprs.specs.Tables.{key}
-use Rattle.exprs.specs.Atoms.{atomChain, group as group-rule, form, atom}
+use Rattle.rules.specs.Inner.{expr}
+use Rattle.rules.specs.Levels.{levels}
+use Rattle.rules.specs.Tables.{key}
+use Rattle.rules.specs.Atoms.{atomChain, group as group-rule, form, atom}
 use Rattle.grammar.specs.Places.{Place, startOf, Here}
 use Rattle.grammar.specs.Symbols.{Other, Until, NoLast, Lit, Ident, Body, Atom, Expr as Whole}
 use Rattle.grammar.specs.Derives.{group, name, list, atom-literal, break-expr, continue-expr, return-expr}

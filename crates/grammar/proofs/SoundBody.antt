@@ -19,11 +19,11 @@ use Rattle.types.specs.declared.items.Items.{Items as Row}
 use Rattle.parts.specs.Records.{blockRecord, wrapped as wrapped-rule}
 use Rattle.parts.specs.Recovery.{skipTurn, skip, skipped, logHere, lineEnd, afterStmt}
 use Rattle.parts.proofs.SkipTakes.{skip-takes}
-use Rattle.exprs.specs.Blocks.{block}
-use Rattle.exprs.specs.Body.{stmtOr, bodyTurn, body}
-use Rattle.exprs.specs.Statements.{stmt}
-use Rattle.exprs.specs.Levels.{levels}
-use Rattle.exprs.proofs.BodyTakes.{body-turn-takes}
+use Rattle.rules.specs.Blocks.{block}
+use Rattle.rules.specs.Body.{stmtOr, bodyTurn, body}
+use Rattle.rules.specs.Statements.{stmt}
+use Rattle.rules.specs.Levels.{levels}
+use Rattle.rules.proofs.BodyTakes.{body-turn-takes}
 use Rattle.grammar.specs.Places.{Place, startOf, Tok}
 use Rattle.grammar.specs.Symbols.{Eols, Body, Stmts, Block, Stmt}
 use Rattle.grammar.specs.Derives.{Derives, body-of, no-stmt, last-stmt, a-line, block-of}

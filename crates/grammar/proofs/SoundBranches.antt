@@ -18,10 +18,10 @@ use Rattle.cursor.proofs.Stack.{Entry, row, Stack, link-some}
 use Rattle.cursor.proofs.Grows.{begin, as-row}
 use Rattle.parts.specs.Records.{ifRecord, roundRecord}
 use Rattle.parts.specs.Steps.{loopNames}
-use Rattle.exprs.specs.Inner.{expr}
-use Rattle.exprs.specs.Levels.{levels}
-use Rattle.exprs.specs.Blocks.{andBlock}
-use Rattle.exprs.specs.Atoms.{alternate, ifElse, loops as loops-rule}
+use Rattle.rules.specs.Inner.{expr}
+use Rattle.rules.specs.Levels.{levels}
+use Rattle.rules.specs.Blocks.{andBlock}
+use Rattle.rules.specs.Atoms.{alternate, ifElse, loops as loops-rule}
 use Rattle.grammar.specs.Places.{Place, startOf, Tok, Here}
 use Rattle.grammar.specs.Symbols.{Other, Block, Body, Atom, Alternate, Names, Expr as Whole}
 use Rattle.grammar.specs.Derives.{Derives, if-expr, loop-expr, while-expr, for-expr, no-else, else-if, else-block}

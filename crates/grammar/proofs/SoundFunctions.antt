@@ -21,9 +21,9 @@ use Rattle.types.specs.Items.{isEnded}
 use Rattle.types.specs.Types.{atoms}
 use Rattle.parts.specs.Records.{functionKind, functionRecord, fnRecord}
 use Rattle.parts.specs.Steps.{anyParams}
-use Rattle.exprs.specs.Levels.{levels}
-use Rattle.exprs.specs.Functions.{function}
-use Rattle.exprs.specs.Atoms.{doFunction, anonFunction, anon}
+use Rattle.rules.specs.Levels.{levels}
+use Rattle.rules.specs.Functions.{function}
+use Rattle.rules.specs.Atoms.{doFunction, anonFunction, anon}
 use Rattle.grammar.specs.Places.{Place, startOf, Here}
 use Rattle.grammar.specs.Symbols.{Other, Block, Body, Returns, Params, Function, Atom}
 use Rattle.grammar.specs.Derives.{Derives, function-of, fn-expr, closure-expr, do-expr}

@@ -4,7 +4,7 @@ use mathlib.Core.Bool.{Bool}
 use lib.ListN.{length}
 use Rattle.cursor.specs.Sheet.{Sheet}
 use Rattle.cursor.specs.Records.{noKids}
-use Rattle.exprs.specs.Levels.{knot, levels}
+use Rattle.rules.specs.Levels.{knot, levels}
 use Rattle.grammar.specs.Symbols.{Body, Prec}
 use Rattle.grammar.proofs.KeepsStmts.{key-keeps, function-keeps}
 use Rattle.grammar.proofs.Sound.{Sound, refuses}

@@ -17,10 +17,10 @@ use Rattle.cursor.proofs.Grows.{begin, as-row}
 use Rattle.types.specs.declared.items.Items.{Items as Row}
 use Rattle.parts.specs.Values.{rowOf}
 use Rattle.parts.specs.Records.{rowRecord}
-use Rattle.exprs.specs.Inner.{expr}
-use Rattle.exprs.specs.Levels.{levels}
-use Rattle.exprs.specs.Atoms.{matchCase, caseTurn, cases}
-use Rattle.exprs.proofs.Takes.{case-turn-takes}
+use Rattle.rules.specs.Inner.{expr}
+use Rattle.rules.specs.Levels.{levels}
+use Rattle.rules.specs.Atoms.{matchCase, caseTurn, cases}
+use Rattle.rules.proofs.Takes.{case-turn-takes}
 use Rattle.grammar.specs.Places.{Place, startOf, Tok, Here}
 use Rattle.grammar.specs.Symbols.{Other, Eols, Atom, Cases, Case, Patterns, Expr as Whole}
 use Rattle.grammar.specs.Derives.{Derives, match-expr, no-case, more-cases, case-of}

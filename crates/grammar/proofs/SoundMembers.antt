@@ -21,12 +21,13 @@ use Rattle.types.specs.Items.{isEnded, addSome}
 use Rattle.types.specs.Patterns.{spanOf as rangeOf}
 use Rattle.parts.specs.declared.values.Expr.{Expr}
 use Rattle.parts.specs.declared.values.Expr.the-variants as exprs
-use Rattle.parts.specs.Values.{linkOf, memberOf, memberForm}
+use Rattle.parts.specs.Values.{linkOf, memberOf, memberKind}
 use Rattle.parts.specs.Records.{memberRecord}
+use Rattle.parts.proofs.RecordPaths.{kind-meta, kind-property}
 use Rattle.parts.specs.Steps.{noMember, metaEnd}
-use Rattle.exprs.specs.Inner.{expr}
-use Rattle.exprs.specs.Primary.{memberChain, member as member-rule, access}
-use Rattle.exprs.specs.Levels.{levels}
+use Rattle.rules.specs.Inner.{expr}
+use Rattle.rules.specs.Primary.{memberChain, member as member-rule, access}
+use Rattle.rules.specs.Levels.{levels}
 use Rattle.grammar.specs.Places.{Place, spanOf, Tok, Here, Not, Free, from-none, from-all}
 use Rattle.grammar.specs.Symbols.{Form, Ident, Expr as Whole, Posts, Member}
 use Rattle.grammar.specs.Derives.{Derives, openers, NoLambda, no-post, member, safe-member, bracket, dot, double-colon, bracket-meta, dot-meta, double-colon-meta}
@@ -84,14 +85,6 @@ member-held (exprs.NameMember a) ranged.Nowhere link st = record { fits = fits-o
 member-held (exprs.Call a called) ranged.Nowhere link st = record { fits = fits-other; stack = st }
 member-held (exprs.Other a) ranged.Nowhere link st = record { fits = fits-other; stack = st }
 
--- the number of a member with a property, and of one without
-form-some : (which a : ℕ) → which < 3 → 0 < a → memberForm which a ≡ which
-form-some which zero h o = absurd (omega (arith, o))
-form-some which (suc a) h o = omega (arith, h)
-
-form-none : (which : ℕ) → which < 3 → memberForm which 0 ≡ which + 3
-form-none which h = omega (arith, h)
-
 -- one more in a row, where there is one, by what becomes of any stack
 pub data Lengthened (kids : Kids) (a : ℕ) : Spot → Spot → Kids → Type 0 where
   lengthened : {p : Place} {n : ℕ} {xs ys : List ℕ} {k : Kids}
@@ -115,7 +108,7 @@ abbrev memberLabel : ℕ → Ranged → Place → ℕ → Label
 memberLabel from safe q k = labelled node.Member from (rangeOf safe .start) (rangeOf safe .end) (flagged k 0 (isEnded safe) false) q
 
 abbrev MemberRecord : ℕ → Ranged → ℕ → Expr → ℕ → Claim (Next Expr)
-MemberRecord from safe which x link = Seq (Added noKids (linkOf x)) (λ one. Seq (Lengthened one link) (λ all. Seq (Closed node.Member from (rangeOf safe .start) (rangeOf safe .end) (flagged (memberForm which link) 0 (isEnded safe) false) (all .first)) (λ m. Gave (more (memberOf x safe m)))))
+MemberRecord from safe which x link = Seq (Added noKids (linkOf x)) (λ one. Seq (Lengthened one link) (λ all. Seq (Closed node.Member from (rangeOf safe .start) (rangeOf safe .end) (flagged (memberKind which link) 0 (isEnded safe) false) (all .first)) (λ m. Gave (more (memberOf x safe m)))))
 
 member-record-sound : (e : Sheet) (from : ℕ) (safe : Ranged) (which : ℕ) (x : Expr) (link : ℕ) → Sound e (MemberRecord from safe which x link) (memberRecord from safe which x link)
 unfolding memberRecord
@@ -146,7 +139,7 @@ module _ (text : List ℕ) (lambda : Bool) (from : ℕ) where
     same = ap (λ t. memberOver from q safe which (only (tree l ks)) t) s;
     push = λ lo es y.
         let st = f _ (as-row (y .stack)) in
-        member-held x safe _ (relabel (ap (memberLabel from safe q) (form-some which a h (link-some st))) (wrapped _ (u _ _ _ _ _ _ es st) o));
+        member-held x safe _ (relabel (ap (memberLabel from safe q) (kind-property which a (omega (arith, h)) (λ q. omega (arith, q, link-some st)))) (wrapped _ (u _ _ _ _ _ _ es st) o));
   })
   member-goes x safe which h post (meta {q = q} d s) (added-to ▸ lengthened {k = all} u z ▸ closed o ▸ gave) = goes (post (which + 3) _ q d) (λ last l ks. record {
     last-now = all .last;
@@ -154,7 +147,7 @@ module _ (text : List ℕ) (lambda : Bool) (from : ℕ) where
     kids-now = tree l ks;
     same = ap (λ t. memberOver from q safe (which + 3) (only (tree l ks)) t) s;
     push = λ lo es y.
-        member-held x safe _ (relabel (ap (memberLabel from safe q) (form-none which h)) (wrapped _ (z refl _ _ es (as-row (y .stack))) o));
+        member-held x safe _ (relabel (ap (memberLabel from safe q) (kind-meta which 0 (omega (arith, h)) refl)) (wrapped _ (z refl _ _ es (as-row (y .stack))) o));
   })
 
 module _ (e : Sheet) (d : ℕ) (wholes : (lambda : Bool) → Sound e (Value (e .text) (Whole lambda)) (expr (levels e d) lambda)) where

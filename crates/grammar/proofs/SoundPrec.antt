@@ -27,10 +27,10 @@ use Rattle.parts.specs.declared.steps.Checked.the-variants as checked
 use Rattle.parts.specs.Values.{linkOf}
 use Rattle.parts.specs.Records.{couple}
 use Rattle.parts.specs.Steps.{checkedType}
-use Rattle.exprs.specs.Inner.{expr}
-use Rattle.exprs.specs.Precedence.{operated, infixBy, infixTurn, unary, precedence}
-use Rattle.exprs.specs.Levels.{levels}
-use Rattle.exprs.proofs.Takes.{infix-turn-takes}
+use Rattle.rules.specs.Inner.{expr}
+use Rattle.rules.specs.Precedence.{operated, infixBy, infixTurn, unary, precedence}
+use Rattle.rules.specs.Levels.{levels}
+use Rattle.rules.proofs.Takes.{infix-turn-takes}
 use Rattle.grammar.specs.Places.{Place, kindOf, spanOf, startOf, after, Tok}
 use Rattle.grammar.specs.Symbols.{Form, Other, Expr as Whole, Prec, Ops, Unary}
 use Rattle.grammar.specs.Derives.{Derives, expr-of, prec-of, no-op, binary, type-check}

@@ -23,12 +23,12 @@ use Rattle.parts.specs.declared.values.Expr.the-variants as exprs
 use Rattle.parts.specs.Values.{linkOf, rowOf, uncounted}
 use Rattle.parts.specs.Records.{callRecord}
 use Rattle.parts.specs.Steps.{braced}
-use Rattle.exprs.specs.Inner.{expr}
-use Rattle.exprs.specs.Blocks.{block}
-use Rattle.exprs.specs.Primary.{call as call-rule, postfixTurn, primaryOf}
-use Rattle.exprs.specs.Atoms.{atom, primary}
-use Rattle.exprs.specs.Levels.{levels}
-use Rattle.exprs.proofs.Takes.{postfix-turn-takes}
+use Rattle.rules.specs.Inner.{expr}
+use Rattle.rules.specs.Blocks.{block}
+use Rattle.rules.specs.Primary.{call as call-rule, postfixTurn, primaryOf}
+use Rattle.rules.specs.Atoms.{atom, primary}
+use Rattle.rules.specs.Levels.{levels}
+use Rattle.rules.proofs.Takes.{postfix-turn-takes}
 use Rattle.grammar.specs.Places.{Place, Tok, Here}
 use Rattle.grammar.specs.Symbols.{Until, NoLast, Body, Block, Atom, Primary, Posts, Expr as Whole}
 use Rattle.grammar.specs.Derives.{Derives, NoLambda, no-brace, not-taken, primary-of, call, call-lambda, lambda-alone}

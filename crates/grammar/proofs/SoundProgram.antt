@@ -24,8 +24,8 @@ use Rattle.cursor.proofs.Meaning.{built-meaning}
 use Rattle.cursor.proofs.Once.{uses, built-once}
 use Rattle.cursor.proofs.Grows.{begin}
 use Rattle.types.specs.Items.{start}
-use Rattle.exprs.specs.Body.{body}
-use Rattle.exprs.specs.Levels.{levels, programRecord, program}
+use Rattle.rules.specs.Body.{body}
+use Rattle.rules.specs.Levels.{levels, programRecord, program}
 use Rattle.grammar.specs.Places.{Place, opening}
 use Rattle.grammar.specs.Symbols.{Body}
 use Rattle.grammar.specs.Derives.{Derives}

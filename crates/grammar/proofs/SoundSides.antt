@@ -23,9 +23,9 @@ use Rattle.cursor.proofs.Stack.{Entry, whole, Stack}
 use Rattle.parts.specs.declared.values.Called.{Called}
 use Rattle.parts.specs.declared.values.Expr.{Expr}
 use Rattle.parts.specs.declared.values.Expr.the-variants as exprs
-use Rattle.exprs.specs.Statements.{leftOf, leftTurn, lefts}
-use Rattle.exprs.specs.Levels.{levels}
-use Rattle.exprs.proofs.Takes.{left-turn-takes}
+use Rattle.rules.specs.Statements.{leftOf, leftTurn, lefts}
+use Rattle.rules.specs.Levels.{levels}
+use Rattle.rules.proofs.Takes.{left-turn-takes}
 use Rattle.grammar.specs.Places.{Place, Tok, Here}
 use Rattle.grammar.specs.Symbols.{Form, Assignable, a-name, a-member, Lefts, Rights, Expr as Whole, Prec}
 use Rattle.grammar.specs.Derives.{Derives, no-left, a-left, no-right, a-right}

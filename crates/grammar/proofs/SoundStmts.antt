@@ -26,9 +26,9 @@ use Rattle.types.specs.Items.{close, addSome, isEnded}
 use Rattle.types.specs.Types.{named}
 use Rattle.types.specs.Patterns.{spanOf as rangeOf}
 use Rattle.parts.specs.Records.{fnRecord}
-use Rattle.exprs.specs.Functions.{function, fnStmt}
-use Rattle.exprs.specs.Statements.{stmtChain, gloChain, gloBy, glo as glo-rule, plain as plain-rule, functionStmt, stmt}
-use Rattle.exprs.specs.Levels.{levels}
+use Rattle.rules.specs.Functions.{function, fnStmt}
+use Rattle.rules.specs.Statements.{stmtChain, gloChain, gloBy, glo as glo-rule, plain as plain-rule, functionStmt, stmt}
+use Rattle.rules.specs.Levels.{levels}
 use Rattle.grammar.specs.Places.{Place, spanOf, startOf, Here}
 use Rattle.grammar.specs.Symbols.{Ident, Ty, Typed, Stmt, Effect, Path, Function, Prec}
 use Rattle.grammar.specs.Derives.{fn-stmt, import-stmt, effect-stmt, glo-fn, glo-effect, glo-assign}

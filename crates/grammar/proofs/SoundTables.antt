@@ -20,10 +20,10 @@ use Rattle.cursor.proofs.Grows.{begin, as-row}
 use Rattle.parts.specs.Values.{rowWith}
 use Rattle.parts.specs.Records.{listRecord, blockRecord, wrapped as wrapped-rule}
 use Rattle.parts.specs.Steps.{litKey, parenKeyAt, parenKey, itemsEnd}
-use Rattle.exprs.specs.Inner.{expr}
-use Rattle.exprs.specs.Levels.{levels}
-use Rattle.exprs.specs.Tables.{key, property as property-rule, item, itemsOf, table as table-rule, braceBlock, tableOrBlock, brace}
-use Rattle.exprs.proofs.Takes.{until-turn-takes}
+use Rattle.rules.specs.Inner.{expr}
+use Rattle.rules.specs.Levels.{levels}
+use Rattle.rules.specs.Tables.{key, property as property-rule, item, itemsOf, table as table-rule, braceBlock, tableOrBlock, brace}
+use Rattle.rules.proofs.Takes.{until-turn-takes}
 use Rattle.grammar.specs.Places.{Place, startOf, Tok, Here}
 use Rattle.grammar.specs.Symbols.{Other, Eols, Until, NoLast, Lit, Body, Atom, Key, Property, Expr as Whole}
 use Rattle.grammar.specs.Derives.{Derives, until-of, items-end, items-final, items-comma, table, block-expr, property, group-key, literal-key}

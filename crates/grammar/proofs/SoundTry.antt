@@ -28,11 +28,11 @@ use Rattle.parts.specs.declared.values.Expr.{Expr}
 use Rattle.parts.specs.declared.values.Expr.the-variants as exprs
 use Rattle.parts.specs.Values.{linkOf, rowOf}
 use Rattle.parts.specs.Records.{handlerRecord, handlersFlagged}
-use Rattle.exprs.specs.Blocks.{block}
-use Rattle.exprs.specs.Atoms.{primary}
-use Rattle.exprs.specs.Precedence.{handler, handlerTurn, triedBy, tried as tried-rule, negated as negated-rule, unaryChain, unary}
-use Rattle.exprs.specs.Levels.{levels}
-use Rattle.exprs.proofs.Takes.{handler-turn-takes}
+use Rattle.rules.specs.Blocks.{block}
+use Rattle.rules.specs.Atoms.{primary}
+use Rattle.rules.specs.Precedence.{handler, handlerTurn, triedBy, tried as tried-rule, negated as negated-rule, unaryChain, unary}
+use Rattle.rules.specs.Levels.{levels}
+use Rattle.rules.proofs.Takes.{handler-turn-takes}
 use Rattle.grammar.specs.Places.{Place, kindOf, startOf, Tok}
 use Rattle.grammar.specs.Symbols.{Call, Other, Ident, Block, Params, Unary, Handler, Handlers, Primary}
 use Rattle.grammar.specs.Derives.{Derives, negated, minus, tried, no-unary, last-handler, more-handlers, handler-of}

@@ -28,16 +28,16 @@ use Rattle.parts.specs.Records as parts-Records
 use Rattle.parts.specs.Recovery as parts-Recovery
 use Rattle.parts.specs.Steps as parts-Steps
 use Rattle.parts.specs.Until as parts-Until
-use Rattle.exprs.specs.Atoms as exprs-Atoms
-use Rattle.exprs.specs.Blocks as exprs-Blocks
-use Rattle.exprs.specs.Body as exprs-Body
-use Rattle.exprs.specs.Functions as exprs-Functions
-use Rattle.exprs.specs.Inner as exprs-Inner
-use Rattle.exprs.specs.Levels as exprs-Levels
-use Rattle.exprs.specs.Precedence as exprs-Precedence
-use Rattle.exprs.specs.Primary as exprs-Primary
-use Rattle.exprs.specs.Statements as exprs-Statements
-use Rattle.exprs.specs.Tables as exprs-Tables
+use Rattle.rules.specs.Atoms as rules-Atoms
+use Rattle.rules.specs.Blocks as rules-Blocks
+use Rattle.rules.specs.Body as rules-Body
+use Rattle.rules.specs.Functions as rules-Functions
+use Rattle.rules.specs.Inner as rules-Inner
+use Rattle.rules.specs.Levels as rules-Levels
+use Rattle.rules.specs.Precedence as rules-Precedence
+use Rattle.rules.specs.Primary as rules-Primary
+use Rattle.rules.specs.Statements as rules-Statements
+use Rattle.rules.specs.Tables as rules-Tables
 use Rattle.parser.specs.Blank as parser-Blank
 use Rattle.parser.specs.Finish as parser-Finish
 use Rattle.parser.specs.Parse as parser-Parse
@@ -67,7 +67,7 @@ unfolding parts-Effects.effectRecord parts-Effects.effectStmt parts-Imports.impo
 of-parts = 0
 
 unfoldable pub of-exprs : ℕ
-unfolding exprs-Atoms.group exprs-Atoms.doFunction exprs-Atoms.anonFunction exprs-Atoms.anon exprs-Atoms.alternate exprs-Atoms.ifElse exprs-Atoms.matchCase exprs-Atoms.caseTurn exprs-Atoms.cases exprs-Atoms.loops exprs-Atoms.form exprs-Atoms.atom exprs-Atoms.primary exprs-Blocks.block exprs-Blocks.andBlock exprs-Body.stmtOr exprs-Body.bodyTurn exprs-Body.body exprs-Functions.function exprs-Functions.fnStmt exprs-Inner.expr exprs-Levels.knot exprs-Levels.programRecord exprs-Levels.program exprs-Precedence.handler exprs-Precedence.handlerTurn exprs-Precedence.triedBy exprs-Precedence.tried exprs-Precedence.negated exprs-Precedence.unary exprs-Precedence.operated exprs-Precedence.infixBy exprs-Precedence.infixTurn exprs-Precedence.precedence exprs-Primary.member exprs-Primary.access exprs-Primary.call exprs-Primary.postfixTurn exprs-Primary.primaryOf exprs-Statements.right exprs-Statements.setTo exprs-Statements.set exprs-Statements.typed exprs-Statements.leftOf exprs-Statements.leftTurn exprs-Statements.lefts exprs-Statements.rightTurn exprs-Statements.rights exprs-Statements.multiTo exprs-Statements.multi exprs-Statements.assign exprs-Statements.gloBy exprs-Statements.glo exprs-Statements.plain exprs-Statements.functionStmt exprs-Statements.stmt exprs-Tables.key exprs-Tables.property exprs-Tables.item exprs-Tables.itemsOf exprs-Tables.table exprs-Tables.braceBlock exprs-Tables.tableOrBlock exprs-Tables.brace
+unfolding rules-Atoms.group rules-Atoms.doFunction rules-Atoms.anonFunction rules-Atoms.anon rules-Atoms.alternate rules-Atoms.ifElse rules-Atoms.matchCase rules-Atoms.caseTurn rules-Atoms.cases rules-Atoms.loops rules-Atoms.form rules-Atoms.atom rules-Atoms.primary rules-Blocks.block rules-Blocks.andBlock rules-Body.stmtOr rules-Body.bodyTurn rules-Body.body rules-Functions.function rules-Functions.fnStmt rules-Inner.expr rules-Levels.knot rules-Levels.programRecord rules-Levels.program rules-Precedence.handler rules-Precedence.handlerTurn rules-Precedence.triedBy rules-Precedence.tried rules-Precedence.negated rules-Precedence.unary rules-Precedence.operated rules-Precedence.infixBy rules-Precedence.infixTurn rules-Precedence.precedence rules-Primary.member rules-Primary.access rules-Primary.call rules-Primary.postfixTurn rules-Primary.primaryOf rules-Statements.right rules-Statements.setTo rules-Statements.set rules-Statements.typed rules-Statements.leftOf rules-Statements.leftTurn rules-Statements.lefts rules-Statements.rightTurn rules-Statements.rights rules-Statements.multiTo rules-Statements.multi rules-Statements.assign rules-Statements.gloBy rules-Statements.glo rules-Statements.plain rules-Statements.functionStmt rules-Statements.stmt rules-Tables.key rules-Tables.property rules-Tables.item rules-Tables.itemsOf rules-Tables.table rules-Tables.braceBlock rules-Tables.tableOrBlock rules-Tables.brace
 of-exprs = 0
 
 unfoldable pub of-parser : ℕ

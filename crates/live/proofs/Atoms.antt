@@ -18,11 +18,11 @@ use Rattle.parts.specs.declared.values.Expr.{Expr}
 use Rattle.parts.specs.declared.values.Expr.the-variants as exprs
 use Rattle.parts.specs.Values.{linkOf, rowOf}
 use Rattle.parts.specs.Steps.{alone}
-use Rattle.exprs.specs.Inner.{Inner}
-use Rattle.exprs.specs.Primary.{primaryOf}
-use Rattle.exprs.specs.Atoms.{atomChain, group, doFunction, anonFunction, anon, alternate, ifElse, matchCase, caseTurn, cases, form, atom, primary}
-use Rattle.exprs.specs.Atoms as atoms
-use Rattle.exprs.specs.Precedence.{unaryChain, handler, handlerTurn, triedBy, tried, negated, unary, operated, infixBy, infixTurn, precedence}
+use Rattle.rules.specs.Inner.{Inner}
+use Rattle.rules.specs.Primary.{primaryOf}
+use Rattle.rules.specs.Atoms.{atomChain, group, doFunction, anonFunction, anon, alternate, ifElse, matchCase, caseTurn, cases, form, atom, primary}
+use Rattle.rules.specs.Atoms as atoms
+use Rattle.rules.specs.Precedence.{unaryChain, handler, handlerTurn, triedBy, tried, negated, unary, operated, infixBy, infixTurn, precedence}
 use Rattle.live.proofs.Live.{Adds, Takes, Turns, adds, takes, fits, gives, stops, ifs}
 use Rattle.live.proofs.Together.{binds, onto, after, loops}
 use Rattle.live.proofs.Cursor.{asks, bump-bounded, check-bounded, eat-bounded, expect-bounded, pick-bounded, eat-eol-bounded, add-bounded}

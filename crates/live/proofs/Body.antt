@@ -20,8 +20,8 @@ use Rattle.cursor.specs.Checks.{liveRoom, pickFrom}
 use Rattle.cursor.specs.Attempts.{unbuilt, recover}
 use Rattle.cursor.specs.Records.{noKids}
 use Rattle.parts.specs.Recovery.{skipTurn, skip, skipped, afterStmt}
-use Rattle.exprs.specs.Inner.{Inner}
-use Rattle.exprs.specs.Body.{stmtOr, bodyTurn, body}
+use Rattle.rules.specs.Inner.{Inner}
+use Rattle.rules.specs.Body.{stmtOr, bodyTurn, body}
 use Rattle.live.proofs.Live.{Ends, well, branch, weaken, then, either, Settled, settled-by, Kept, fresh, same, at-most, Adds, adds}
 use Rattle.live.proofs.Together.{binds}
 use Rattle.live.proofs.Cursor.{calm-past, Checked, found, other, check-tells, bump-tells, eols-bounded, eat-eol-bounded, log-still}

@@ -10,11 +10,11 @@ use Rattle.cursor.specs.Node as node
 use Rattle.parts.specs.declared.values.Expr.{Expr}
 use Rattle.parts.specs.Values.{linkOf, rowOf, rowWith}
 use Rattle.parts.specs.Steps.{itemsEnd}
-use Rattle.exprs.specs.Inner.{Inner}
-use Rattle.exprs.specs.Blocks.{block, andBlock}
-use Rattle.exprs.specs.Functions.{function, fnStmt}
-use Rattle.exprs.specs.Tables.{key, property, item, itemsOf, table, braceBlock, tableOrBlock, brace}
-use Rattle.exprs.specs.Primary.{memberChain, member, access, call, postfixTurn}
+use Rattle.rules.specs.Inner.{Inner}
+use Rattle.rules.specs.Blocks.{block, andBlock}
+use Rattle.rules.specs.Functions.{function, fnStmt}
+use Rattle.rules.specs.Tables.{key, property, item, itemsOf, table, braceBlock, tableOrBlock, brace}
+use Rattle.rules.specs.Primary.{memberChain, member, access, call, postfixTurn}
 use Rattle.live.proofs.Live.{Adds, Takes, Turns, adds, takes, fits, forget, passed, gives, ifs}
 use Rattle.live.proofs.Together.{binds, onto, after, attempts}
 use Rattle.live.proofs.Cursor.{asks, bump-bounded, eat-bounded, expect-bounded, eat-range-bounded, pick-bounded, eat-eol-bounded, add-bounded}

@@ -3,7 +3,7 @@
 use mathlib.Core.Path.{refl}
 use mathlib.Core.Bool.{Bool}
 use Prim.Native.Nat.{ℕ}
-use Rattle.exprs.specs.Inner.{Inner, expr}
+use Rattle.rules.specs.Inner.{Inner, expr}
 use Rattle.live.proofs.Live.{Adds, Takes, takes, gives}
 use Rattle.live.proofs.Together.{after}
 use Rattle.live.proofs.Types.{Atom, Pattern}

@@ -10,7 +10,7 @@ use Rattle.cursor.specs.Sheet.{Sheet}
 use Rattle.cursor.specs.Rule.{World, refused, failed}
 use Rattle.cursor.specs.Checks.{liveRoom}
 use Rattle.types.specs.Items.{start}
-use Rattle.exprs.specs.Levels.{knot, levels, programRecord, program}
+use Rattle.rules.specs.Levels.{knot, levels, programRecord, program}
 use Rattle.live.proofs.Live.{Ends, cut, weaken, then, not-full, refuses, lifted}
 use Rattle.live.proofs.Cursor.{append-still}
 use Rattle.live.proofs.Types.{level, atoms-bounded, patterns-bounded}

@@ -2,6 +2,7 @@
 use mathlib.Core.Path.{refl}
 use mathlib.Core.Bool.{Bool, true, false}
 use Prim.Native.Nat.{ℕ, _+_, max}
+use lib.ListN.{getD}
 use lib.Dec.{ltb, eqb}
 use Rattle.kinds.specs.Number as kind
 use Rattle.cursor.specs.declared.Kids.{Kids}
@@ -20,8 +21,8 @@ use Rattle.parts.specs.declared.values.AssignLeft.the-variants as assigns
 use Rattle.parts.specs.Values.{toAssignLeft, rowWith, uncounted}
 use Rattle.parts.specs.When.{failWith}
 use Rattle.parts.specs.Steps.{alone, operatorOf}
-use Rattle.exprs.specs.Inner.{Inner}
-use Rattle.exprs.specs.Statements.{stmtChain, gloChain, signChain, right, setTo, set, typed, leftOf, leftTurn, lefts, rightTurn, rights, multiTo, multi, assign, gloBy, glo, plain, functionStmt, stmt}
+use Rattle.rules.specs.Inner.{Inner}
+use Rattle.rules.specs.Statements.{stmtChain, gloChain, signChain, right, setTo, set, typed, leftOf, leftTurn, lefts, rightTurn, rights, multiTo, multi, assign, gloBy, glo, plain, functionStmt, stmt}
 use Rattle.live.proofs.Live.{Bounded, all, Adds, Takes, Turns, adds, takes, fits, passed, gives, stops, ifs}
 use Rattle.live.proofs.Together.{binds, onto, after, attempts, loops}
 use Rattle.live.proofs.Cursor.{ranges, bump-bounded, check-bounded, unexpected-bounded, expect-bounded, eat-range-bounded, pick-bounded, add-bounded}
@@ -49,14 +50,14 @@ module _ {r : Inner} {N : ℕ} (x : Handed r N) where
   unfolding right
   right-bounded from k op link = takes (after (expr-bounded x true) (λ value. couple-bounded k from op link value)) refl refl refl refl
 
-  set-to-bounded : (from which : ℕ) (l : AssignLeft) → Takes (r .sheet) N 0 32 42 112 (setTo r from which l)
+  set-to-bounded : (from sign : ℕ) (l : AssignLeft) → Takes (r .sheet) N 0 32 42 112 (setTo r from sign l)
   unfolding setTo
-  set-to-bounded from which (assigns.To link) = takes (onto bump-bounded (λ _. ifs (eqb which 2) (right-bounded from node.Assign 0 link) (right-bounded from node.AssignOp (operatorOf which) link))) refl refl refl refl
-  set-to-bounded from which assigns.Nothing = takes (unexpected-bounded) refl refl refl refl
+  set-to-bounded from sign (assigns.To link) = takes (onto bump-bounded (λ _. ifs (eqb sign kind.Assign) (right-bounded from node.Assign 0 link) (right-bounded from node.AssignOp (operatorOf sign) link))) refl refl refl refl
+  set-to-bounded from sign assigns.Nothing = takes (unexpected-bounded) refl refl refl refl
 
-  set-bounded : (from which : ℕ) (a : Expr) → Takes (r .sheet) N 0 32 42 112 (set r from which a)
+  set-bounded : (from sign : ℕ) (a : Expr) → Takes (r .sheet) N 0 32 42 112 (set r from sign a)
   unfolding set
-  set-bounded from which a = takes (set-to-bounded from which (toAssignLeft a)) refl refl refl refl
+  set-bounded from sign a = takes (set-to-bounded from sign (toAssignLeft a)) refl refl refl refl
 
   typed-bounded : (from : ℕ) (a : Expr) → Takes (r .sheet) N 0 32 42 112 (typed r from a)
   unfolding typed
@@ -107,7 +108,7 @@ module _ {r : Inner} {N : ℕ} (x : Handed r N) where
   assign-bounded : (from : ℕ) → Takes (r .sheet) N 19 42 42 112 (assign r from)
   unfolding assign
   assign-bounded from =
-      takes (after (x .prec 1 true) (λ a. binds (pick-bounded signChain 0) (λ which. ifs (eqb which 0) (passed (multi-bounded from a)) (ifs (eqb which 1) (passed (typed-bounded from a)) (ifs (ltb 7 which) gives (passed (set-bounded from which a))))))) refl refl refl refl
+      takes (after (x .prec 1 true) (λ a. binds (pick-bounded signChain 0) (λ which. ifs (eqb which 0) (passed (multi-bounded from a)) (ifs (eqb which 1) (passed (typed-bounded from a)) (ifs (ltb 7 which) gives (passed (set-bounded from (getD signChain which 0) a))))))) refl refl refl refl
 
   glo-by-bounded : (from : ℕ) (here : Ranged) (which : ℕ) → Takes (r .sheet) N 1 36 42 112 (gloBy r from here which)
   unfolding gloBy

@@ -16,7 +16,7 @@ use Rattle.entry.specs.declared.Entry.{Entry}
 use Rattle.entry.specs.declared.Entry.the-variants as entries
 use Rattle.entry.specs.Check.{entryOf}
 use Rattle.entry.proofs.Sound.{fit-sheet}
-use Rattle.exprs.specs.Levels.{under, program}
+use Rattle.rules.specs.Levels.{under, program}
 use Rattle.grammar.specs.Places.{tokensOf}
 use Rattle.grammar.specs.Follows.{Follows, treeOf}
 use Rattle.grammar.specs.Words.{tokenWords, words}

@@ -21,8 +21,8 @@ use Rattle.entry.specs.declared.Entry.{Entry}
 use Rattle.entry.specs.declared.Entry.the-variants as entries
 use Rattle.entry.specs.Check.{refusalNumber, entryOf}
 use Rattle.types.specs.Items.{start}
-use Rattle.exprs.specs.Inner.{Inner}
-use Rattle.exprs.specs.Levels.{under, programRecord, program}
+use Rattle.rules.specs.Inner.{Inner}
+use Rattle.rules.specs.Levels.{under, programRecord, program}
 use Rattle.blind.proofs.Blind.{no-node, no-error, too-deep, all-spent, too-many-kinds, Twins, well, ill, cut}
 use Rattle.blind.proofs.Program.{program-blind}
 use Rattle.parser.specs.declared.Reading.{Reading}

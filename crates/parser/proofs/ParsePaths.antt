@@ -15,7 +15,7 @@ use Rattle.cursor.proofs.Keeps.{Mark, mark, mark-stands, Same}
 use Rattle.entry.specs.declared.Refusal.{Refusal}
 use Rattle.entry.specs.declared.Entry.the-variants as entries
 use Rattle.entry.specs.Check.{refusalNumber, entryOf}
-use Rattle.exprs.specs.Levels.{under, program}
+use Rattle.rules.specs.Levels.{under, program}
 use Rattle.blind.proofs.Blind.{no-node, no-error, too-deep, all-spent, too-many-kinds, Twin, Twins, well, ill, cut}
 use Rattle.blind.proofs.Program.{program-blind}
 use Rattle.parser.specs.declared.Answer.the-variants as answers

@@ -8,7 +8,7 @@ use Rattle.cursor.specs.Layout.{nodeWords, errorWords}
 use Rattle.cursor.specs.Rule.{world, begin}
 use Rattle.entry.specs.declared.Entry.the-variants as entries
 use Rattle.entry.specs.Check.{entryOf}
-use Rattle.exprs.specs.Levels.{under, program}
+use Rattle.rules.specs.Levels.{under, program}
 use Rattle.blind.proofs.Sure.{Clean, program-sure}
 use Rattle.parser.specs.Blank.{upTo, blank}
 use Rattle.parser.specs.Parse.{within, reading, parse}

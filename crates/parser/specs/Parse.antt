@@ -8,7 +8,7 @@ use Rattle.entry.specs.declared.Entry.{Entry}
 use Rattle.entry.specs.declared.Entry.the-variants as entries
 use Rattle.entry.specs.Check.{refusalNumber, entryOf}
 use Rattle.parts.specs.declared.values.Left.{Left}
-use Rattle.exprs.specs.Levels.{under, program}
+use Rattle.rules.specs.Levels.{under, program}
 use Rattle.parser.specs.Blank.{blank}
 use Rattle.parser.specs.Outcome.{Outcome, unread}
 use Rattle.parser.specs.Finish.{finished}

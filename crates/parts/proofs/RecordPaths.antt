@@ -1,7 +1,9 @@
 -- Each way through the records of expressions.
 use mathlib.Core.Path.{_≡_, refl, ap, _∙_}
 use mathlib.Core.Bool.{Bool, true, false}
-use Prim.Native.Nat.{ℕ, zero, suc, _+_, _%_}
+use Prim.Native.Nat.{ℕ, zero, suc, _+_, _<_, _≤_}
+use native.Mathlib.Omega.{arith}
+use lib.ListN.{getD, List·getD-eq-default}
 use lib.Dec.{ltb}
 use borrow.Author.Tests.{eq-eqb, ne-eqb}
 use Rattle.cursor.specs.declared.State.{State}
@@ -18,7 +20,8 @@ use Rattle.types.specs.Patterns.{spanOf}
 use Rattle.parts.specs.declared.values.Called.{Called}
 use Rattle.parts.specs.declared.values.Expr.{Expr}
 use Rattle.parts.specs.declared.values.Expr.the-variants as exprs
-use Rattle.parts.specs.Values.{linkOf, atomExpr, memberOf, memberForm, uncounted}
+use Rattle.parts.specs.Forms as forms
+use Rattle.parts.specs.Values.{linkOf, atomExpr, memberOf, memberKinds, metaKinds, memberKind, uncounted}
 use Rattle.parts.specs.Records.{couple, rowRecord, listRecord, wrapped, blockRecord, fnRecord, functionRecord, handlerRecord, handlersFlagged, ifRecord, roundRecord, callRecord, memberRecord}
 
 -- what goes on from an answer that is handed over, once it is told apart
@@ -26,19 +29,33 @@ pub read-as : {A B C : Type 0} (f : A → World → Out B) {r v : A} (w : World)
 read-as f w k p = ap (λ r. bind (f r w) k) p
 
 -- an atom as an expression
-pub atom-name : (which link : ℕ) → which ≡ 1 → atomExpr which link ≡ exprs.Name link
+pub atom-name : (which link : ℕ) → which ≡ forms.Ident → atomExpr which link ≡ exprs.Name link
 atom-name which link p = rw (eq-eqb _ _ p, atomExpr)
 
-pub atom-other : (which link : ℕ) → (which ≡ 1 → ⊥) → atomExpr which link ≡ exprs.Other link
+pub atom-other : (which link : ℕ) → (which ≡ forms.Ident → ⊥) → atomExpr which link ≡ exprs.Other link
 atom-other which link p = rw (ne-eqb _ _ p, atomExpr)
 
 -- which member it is
-pub form-meta : (which link : ℕ) → link ≡ 0 → memberForm which link ≡ which % 3 + 3
-form-meta which link p = rw p
+kinds-placed : (which : ℕ) → which ≤ 2 → (getD memberKinds which 0 ≡ which) × (getD metaKinds which 0 ≡ which + 3)
+kinds-placed zero h = (refl, refl)
+kinds-placed (suc zero) h = (refl, refl)
+kinds-placed (suc (suc zero)) h = (refl, refl)
+kinds-placed (suc (suc (suc which))) h = absurd (omega (arith, h))
 
-pub form-property : (which link : ℕ) → (link ≡ 0 → ⊥) → memberForm which link ≡ which % 3
-form-property which zero p = absurd (p refl)
-form-property which (suc link) p = refl
+pub kind-none : (which link : ℕ) → 2 < which → memberKind which link ≡ 0
+kind-none which zero h = List·getD-eq-default metaKinds 0 h
+kind-none which (suc link) h = List·getD-eq-default memberKinds 0 h
+
+module _ (which link : ℕ) (h : which ≤ 2) where
+  pub kind-meta : link ≡ 0 → memberKind which link ≡ which + 3
+  kind-meta p = rw p (kinds-placed which h .1)
+
+  pub kind-property : (link ≡ 0 → ⊥) → memberKind which link ≡ which
+  kind-property p = by link p
+    where
+      by : (a : ℕ) → (a ≡ 0 → ⊥) → memberKind which a ≡ which
+      by zero q = absurd (q refl)
+      by (suc a) q = kinds-placed which h .0
 
 -- a member as an expression
 pub member-safe : (x : Expr) (link : ℕ) {safe : Ranged} {r : Span} → safe ≡ ranged.At r → memberOf x safe link ≡ exprs.Other link
@@ -118,11 +135,11 @@ module _ (s : State) (w : World) where
   if-on from kids link f p = rw (← p) (rw f)
 
   module _ (from which names : ℕ) (kids : Kids) where
-    pub round-while : which ≡ 10 → roundRecord from which names kids s w ≡ close node.While from 0 0 0 (kids .first) s w
+    pub round-while : which ≡ forms.While → roundRecord from which names kids s w ≡ close node.While from 0 0 0 (kids .first) s w
     unfolding roundRecord
     round-while p = rw (eq-eqb _ _ p, roundRecord)
 
-    pub round-for : {flags : ℕ} → (which ≡ 10 → ⊥) → flags ≡ flagged names 0 false false → roundRecord from which names kids s w ≡ close node.For from 0 0 flags (kids .first) s w
+    pub round-for : {flags : ℕ} → (which ≡ forms.While → ⊥) → flags ≡ flagged names 0 false false → roundRecord from which names kids s w ≡ close node.For from 0 0 flags (kids .first) s w
     unfolding roundRecord
     round-for p f = rw (ne-eqb _ _ p, roundRecord) (rw f)
 
@@ -135,7 +152,7 @@ module _ (s : State) (w : World) where
     unfolding callRecord
     call-on q = rw (← p) (rw (← f) (rw q))
 
-  module _ (from : ℕ) (safe : Ranged) (which : ℕ) (x : Expr) (link : ℕ) {table form flags : ℕ} {one all : Kids} {w1 w2 : World} {mark : Span} {b : Bool} (t : table ≡ linkOf x) (p : done s w1 one ≡ add noKids table s w) (q : done s w2 all ≡ addSome one link s w1) (m : mark ≡ spanOf safe) (n : form ≡ memberForm which link) (ended : b ≡ isEnded safe) (f : flags ≡ flagged form 0 b false) where
+  module _ (from : ℕ) (safe : Ranged) (which : ℕ) (x : Expr) (link : ℕ) {table which-kind flags : ℕ} {one all : Kids} {w1 w2 : World} {mark : Span} {b : Bool} (t : table ≡ linkOf x) (p : done s w1 one ≡ add noKids table s w) (q : done s w2 all ≡ addSome one link s w1) (m : mark ≡ spanOf safe) (n : which-kind ≡ memberKind which link) (ended : b ≡ isEnded safe) (f : flags ≡ flagged which-kind 0 b false) where
     pub member-failed : {y : Stop} → close node.Member from (mark .start) (mark .end) flags (all .first) s w2 ≡ failed y → memberRecord from safe which x link s w ≡ failed y
     unfolding memberRecord
     member-failed r = rw (← t, ← p) (rw (← q) (rw (← m, ← n, ← ended) (rw (← f) (rw r))))

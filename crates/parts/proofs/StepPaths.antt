@@ -6,6 +6,9 @@ use Prim.Native.Nat.{ℕ, _<_, _≤_}
 use borrow.Author.Tests.{eq-eqb, ne-eqb, lt-ltb, le-ltb}
 use Rattle.kinds.specs.Number as kind
 use Rattle.kinds.specs.Text.{part}
+use Rattle.kinds.specs.declared.operator.BinOp.{BinOp}
+use Rattle.kinds.specs.declared.operator.Operator.the-variants as operators
+use Rattle.kinds.specs.Operators.{compoundOf, opKind}
 use Rattle.kinds.specs.declared.types.ValueType.{ValueType}
 use Rattle.kinds.specs.declared.types.TypeWord.the-variants as words
 use Rattle.kinds.specs.TypeWords.{typeWord, typeNumber}
@@ -28,8 +31,9 @@ use Rattle.parts.specs.declared.values.Expr.{Expr}
 use Rattle.parts.specs.declared.values.Expr.the-variants as exprs
 use Rattle.parts.specs.declared.values.AssignLeft.the-variants as assigns
 use Rattle.parts.specs.declared.steps.Checked.the-variants as checked
+use Rattle.parts.specs.Forms as forms
 use Rattle.parts.specs.Values.{linkOf, toAssignLeft}
-use Rattle.parts.specs.Steps.{itemsEnd, checkedType, anyParams, braced, noMember, metaEnd, litKey, parenKeyAt, parenKey, leaf, nameTurn, names, loopNames, patternTurn, casePatterns, typeChecked, typeCheckAt, typeCheck}
+use Rattle.parts.specs.Steps.{operatorOf, itemsEnd, checkedType, anyParams, braced, noMember, metaEnd, litKey, parenKeyAt, parenKey, leaf, nameTurn, names, loopNames, patternTurn, casePatterns, typeChecked, typeCheckAt, typeCheck}
 
 -- what may be assigned to
 pub assign-name : {x : Expr} {link : ℕ} → x ≡ exprs.Name link → toAssignLeft x ≡ assigns.To link
@@ -43,6 +47,13 @@ assign-call p = rw p
 
 pub assign-other : {x : Expr} {link : ℕ} → x ≡ exprs.Other link → toAssignLeft x ≡ assigns.Nothing
 assign-other p = rw p
+
+-- the operator of a compound assignment
+pub operator-some : (sign : ℕ) {op : BinOp} {k : ℕ} → operators.Binary op ≡ compoundOf sign → k ≡ opKind op → operatorOf sign ≡ k
+operator-some sign p q = rw (← p, q)
+
+pub operator-none : (sign : ℕ) → operators.Nothing ≡ compoundOf sign → operatorOf sign ≡ 0
+operator-none sign p = rw (← p)
 
 -- how lists end
 module _ (k : ℕ) where
@@ -159,11 +170,11 @@ module _ (e : Sheet) (s : State) (w : World) where
     leaf-spent p = rw p
 
     module _ {s1 : State} {w1 : World} (p : bump e s w ≡ done s1 w1 tt) where
-      pub leaf-break : which ≡ 12 → leaf e from which s w ≡ close node.Break from 0 0 0 0 s1 w1
+      pub leaf-break : which ≡ forms.Break → leaf e from which s w ≡ close node.Break from 0 0 0 0 s1 w1
       unfolding leaf
       leaf-break q = rw p (rw (eq-eqb _ _ q))
 
-      pub leaf-continue : (which ≡ 12 → ⊥) → leaf e from which s w ≡ close node.Continue from 0 0 0 0 s1 w1
+      pub leaf-continue : (which ≡ forms.Break → ⊥) → leaf e from which s w ≡ close node.Continue from 0 0 0 0 s1 w1
       unfolding leaf
       leaf-continue q = rw p (rw (ne-eqb _ _ q))
 
@@ -192,11 +203,11 @@ module _ (e : Sheet) (s : State) (w : World) where
 
   -- the names of a `for`, and its `in`
   module _ (which : ℕ) where
-    pub loop-while : which ≡ 10 → loopNames e which s w ≡ done s w noKids
+    pub loop-while : which ≡ forms.While → loopNames e which s w ≡ done s w noKids
     unfolding loopNames
     loop-while p = rw (eq-eqb _ _ p, loopNames)
 
-    module _ (n : which ≡ 10 → ⊥) where
+    module _ (n : which ≡ forms.While → ⊥) where
       pub loop-lost : {x : Stop} → names e s w ≡ failed x → loopNames e which s w ≡ failed x
       unfolding loopNames
       loop-lost p = rw (ne-eqb _ _ n, loopNames) (rw p)

@@ -13,7 +13,8 @@ use Rattle.types.specs.Patterns.{spanOf}
 use Rattle.parts.specs.declared.values.Called.{Called}
 use Rattle.parts.specs.declared.values.Expr.{Expr}
 use Rattle.parts.specs.declared.values.Expr.the-variants as exprs
-use Rattle.parts.specs.Values.{linkOf, memberOf, memberForm, uncounted}
+use Rattle.parts.specs.Forms as forms
+use Rattle.parts.specs.Values.{linkOf, memberOf, memberKind, uncounted}
 use Rattle.parts.specs.When.{when}
 
 -- a record over two children with one word of its own
@@ -79,9 +80,9 @@ ifRecord from kids link = do
   all ← addSome kids link
   close node.If from 0 0 (flagged 0 0 (ltb 0 link) false) (all .first)
 
--- `while`, the eleventh form of an atom, or `for` over its names, its expression and its block
+-- `while`, or `for` over its names, its expression and its block
 unfoldable pub roundRecord : ℕ → ℕ → ℕ → Kids → Rule ℕ
-roundRecord from which names kids = when (eqb which 10) (close node.While from 0 0 0 (kids .first)) (close node.For from 0 0 (flagged names 0 false false) (kids .first))
+roundRecord from which names kids = when (eqb which forms.While) (close node.While from 0 0 0 (kids .first)) (close node.For from 0 0 (flagged names 0 false false) (kids .first))
 
 -- a Call over its callee, its arguments and its trailing lambda, where it has one; handlers may still join it
 unfoldable pub callRecord : ℕ → Kids → ℕ → Rule (Next Expr)
@@ -95,5 +96,5 @@ unfoldable pub memberRecord : ℕ → Ranged → ℕ → Expr → ℕ → Rule (
 memberRecord from safe which x link = do
   one ← add noKids (linkOf x)
   all ← addSome one link
-  m ← close node.Member from (spanOf safe .start) (spanOf safe .end) (flagged (memberForm which link) 0 (isEnded safe) false) (all .first)
+  m ← close node.Member from (spanOf safe .start) (spanOf safe .end) (flagged (memberKind which link) 0 (isEnded safe) false) (all .first)
   give (more (memberOf x safe m))

@@ -1,10 +1,13 @@
 -- Steps of the rules on expressions that lead back to no expression.
-use Prim.Native.Nat.{ℕ, _+_, _-_, _%_}
+use Prim.Native.Nat.{ℕ}
 use mathlib.Core.List.{List}
 use mathlib.Core.Bool.{Bool, true, false}
 use lib.Dec.{ltb, eqb}
 use Rattle.kinds.specs.Number as kind
 use Rattle.kinds.specs.Text.{part}
+use Rattle.kinds.specs.declared.operator.Operator.{Operator}
+use Rattle.kinds.specs.declared.operator.Operator.the-variants as operators
+use Rattle.kinds.specs.Operators.{compoundOf, opKind}
 use Rattle.kinds.specs.declared.types.TypeWord.{TypeWord}
 use Rattle.kinds.specs.declared.types.TypeWord.the-variants as words
 use Rattle.kinds.specs.TypeWords.{typeWord, typeNumber}
@@ -27,6 +30,7 @@ use Rattle.parts.specs.declared.values.Expr.{Expr}
 use Rattle.parts.specs.declared.values.Expr.the-variants as exprs
 use Rattle.parts.specs.declared.steps.Checked.{Checked}
 use Rattle.parts.specs.declared.steps.Checked.the-variants as checked
+use Rattle.parts.specs.Forms as forms
 use Rattle.parts.specs.Values.{linkOf}
 use Rattle.parts.specs.When.{when}
 
@@ -34,9 +38,14 @@ use Rattle.parts.specs.When.{when}
 abbrev pub alone : ℕ → Span → Fault
 alone k span = record { class = 0; found = k; span = span; listed = 0 }
 
--- the operator of a compound assignment, by its place in the chain of signs: the fourth is `+=`
+-- an operator as a record keeps it: the token kind that it is written with, and 0 for none
+abbrev pub kept : Operator → ℕ
+kept (operators.Binary op) = opKind op
+kept operators.Nothing = 0
+
+-- the operator of a compound assignment, by the kind of its sign
 abbrev pub operatorOf : ℕ → ℕ
-operatorOf which = kind.Add - 3 + which % 8
+operatorOf sign = kept (compoundOf sign)
 
 -- how a list of each item rule ends: 0 arguments, 1 elements, 2 properties
 unfoldable pub itemsEnd : ℕ → ℕ
@@ -91,11 +100,11 @@ module _ (e : Sheet) where
     expect e kind.CloseParen
     parenKeyAt from link
 
-  -- `break`, the thirteenth form of an atom, and `continue`
+  -- `break` and `continue`
   unfoldable pub leaf : ℕ → ℕ → Rule ℕ
   leaf from which = do
     bump e
-    when (eqb which 12) (close node.Break from 0 0 0 0) (close node.Continue from 0 0 0 0)
+    when (eqb which forms.Break) (close node.Break from 0 0 0 0) (close node.Continue from 0 0 0 0)
 
   -- parse_items, for names
   unfoldable pub nameTurn : Turn Kids
@@ -108,9 +117,9 @@ module _ (e : Sheet) where
   unfoldable pub names : Rule Kids
   names = iterate e nameTurn noKids
 
-  -- the names of a `for` and its `in`; `while`, the eleventh form of an atom, has none
+  -- the names of a `for` and its `in`; `while` has none
   unfoldable pub loopNames : ℕ → Rule Kids
-  loopNames which = when (eqb which 10) (give noKids) (do
+  loopNames which = when (eqb which forms.While) (give noKids) (do
     kids ← names
     expect e kind.In
     give kids)

@@ -1,6 +1,8 @@
 -- What an expression answers, as far as a rule asks.
-use Prim.Native.Nat.{ℕ, zero, suc, _+_, _%_}
+use Prim.Native.Nat.{ℕ, zero, suc}
+use mathlib.Core.List.{List, [], _∷_}
 use mathlib.Core.Bool.{true, false}
+use lib.ListN.{getD}
 use lib.Dec.{eqb}
 use Rattle.cursor.specs.declared.Kids.{Kids}
 use Rattle.cursor.specs.declared.Ranged.{Ranged}
@@ -9,6 +11,7 @@ use Rattle.parts.specs.declared.values.Expr.{Expr}
 use Rattle.parts.specs.declared.values.Expr.the-variants as exprs
 use Rattle.parts.specs.declared.values.AssignLeft.{AssignLeft}
 use Rattle.parts.specs.declared.values.AssignLeft.the-variants as assigns
+use Rattle.parts.specs.Forms as forms
 
 -- the link to its record
 abbrev pub linkOf : Expr → ℕ
@@ -24,9 +27,9 @@ toAssignLeft (exprs.NameMember link) = assigns.To link
 toAssignLeft (exprs.Call link called) = assigns.Nothing
 toAssignLeft (exprs.Other link) = assigns.Nothing
 
--- an atom as an expression: the second form of the chain is a plain name
+-- an atom as an expression, by its form: an Ident is a plain name
 abbrev pub atomExpr : ℕ → ℕ → Expr
-atomExpr which link = elim (eqb which 1) as (λ _. Expr) [ true ↦ exprs.Name link | false ↦ exprs.Other link ]
+atomExpr which link = elim (eqb which forms.Ident) as (λ _. Expr) [ true ↦ exprs.Name link | false ↦ exprs.Other link ]
 
 -- a member as an expression: on a plain name and without `?` it may be assigned to
 abbrev pub memberOf : Expr → Ranged → ℕ → Expr
@@ -36,10 +39,18 @@ memberOf (exprs.NameMember n) ranged.Nowhere link = exprs.Other link
 memberOf (exprs.Call n called) ranged.Nowhere link = exprs.Other link
 memberOf (exprs.Other n) ranged.Nowhere link = exprs.Other link
 
--- which member it is, by its place in the chain: Bracket, Dot, DoubleColon, and without a property the meta ones
-abbrev pub memberForm : ℕ → ℕ → ℕ
-memberForm which zero = which % 3 + 3
-memberForm which (suc link) = which % 3
+-- Rust's MemberKind as docs/LAYOUT.md numbers it, beside the opening token of each: Bracket, Dot, DoubleColon; and without a property, which is what `#`
+-- makes of them, BracketMeta, DotMeta, DoubleColonMeta
+abbrev pub memberKinds : List ℕ
+memberKinds = 0 ∷ 1 ∷ 2 ∷ []
+
+abbrev pub metaKinds : List ℕ
+metaKinds = 3 ∷ 4 ∷ 5 ∷ []
+
+-- which member it is, by the place of its opening token in the chain of `[`, `.` and `::`, and by the link to its property
+abbrev pub memberKind : ℕ → ℕ → ℕ
+memberKind which zero = getD metaKinds which 0
+memberKind which (suc link) = getD memberKinds which 0
 
 -- a row that begins with a child which is not counted
 abbrev pub rowOf : ℕ → Kids

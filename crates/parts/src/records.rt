@@ -7,11 +7,12 @@ ghost use Rattle.cursor.specs.Rule.{world, bind, done};
 ghost use Rattle.cursor.specs.Answers.{asBuilt};
 ghost use Rattle.types.specs.Answers.{asListed};
 ghost use Rattle.parts.specs.Answers.{asChained};
-ghost use Rattle.parts.specs.Values.{atomExpr, memberOf, memberForm};
+ghost use Rattle.parts.specs.Values.{atomExpr, memberOf, memberKind};
 ghost use Rattle.cursor.specs.Node as node;
 ghost use Rattle.cursor.specs.declared.Ranged.the-variants as ranged;
 ghost use Rattle.types.specs.Items.{close};
 ghost use Rattle.parts.specs.Records.{couple, rowRecord, listRecord, wrapped, blockRecord, fnRecord, functionRecord, handlerRecord, handlersFlagged, ifRecord, roundRecord, callRecord, memberRecord};
+use crate::forms;
 use crate::values::Called;
 use crate::values::Chained;
 use crate::values::Expr;
@@ -32,11 +33,11 @@ use types::items::close;
 use types::items::is_ended;
 use types::patterns::span_of;
 
-// An atom as an expression: the second form of the chain is a plain name.
+// An atom as an expression, by its form: an Ident is a plain name.
 pub fn atom_expr(which: usize, link: u32) -> Expr
     ensures { λ r. ⌜ r ≡ atomExpr which link ⌝ }
 {
-    if which == 1 {
+    if which == forms::IDENT {
         return Expr::Name(link);
     }
     Expr::Other(link)
@@ -215,7 +216,7 @@ pub fn round_record(
 ) -> Built
     ensures { λ r. ⌜ ((e x l : List ℕ) → asBuilt r (world (now (nodes .exit)) e x l) ≡ roundRecord from which names kids s (world (now (nodes .entry)) e x l)) ⌝ }
 {
-    if which == 10 {
+    if which == forms::WHILE {
         return close(nodes, s, nodes::WHILE, from, 0, 0, 0, kids.first);
     }
     let flags = flagged(names, 0, false, false);
@@ -265,7 +266,7 @@ pub fn member_record(
     let one = add(nodes, NO_KIDS, link_of(x));
     let all = add_some(nodes, one, link);
     let mark = span_of(safe);
-    let flags = flagged(member_form(which, link), 0, is_ended(safe), false);
+    let flags = flagged(member_kind(which, link), 0, is_ended(safe), false);
     let built = close(
         nodes,
         s,
@@ -282,10 +283,14 @@ pub fn member_record(
     }
 }
 
-fn member_form(which: usize, link: u32) -> u32
-    ensures { λ r. ⌜ r ≡ memberForm which link ⌝ }
+// Rust's MemberKind, as docs/LAYOUT.md numbers it: the three meta ones stand behind the three others.
+fn member_kind(which: usize, link: u32) -> u32
+    ensures { λ r. ⌜ r ≡ memberKind which link ⌝ }
 {
-    let place = (which % 3) as u32;
+    if 2 < which {
+        return 0;
+    }
+    let place = which as u32;
     if link == 0 {
         return place + 3;
     }

@@ -13,6 +13,7 @@ ghost use Rattle.parts.specs.Steps.{alone, anyParams, braced, noMember, 
 ghost use Rattle.cursor.specs.Answers.{asTest, asBuilt};
 ghost use Rattle.types.specs.Answers.{asListed};
 ghost use Rattle.parts.specs.Answers.{asRowed, asChained, asAsked};
+use crate::forms;
 use crate::values::Chained;
 use crate::values::Expr;
 use crate::values::Rowed;
@@ -39,6 +40,7 @@ use cursor::records::append;
 use cursor::tokens::bump;
 use cursor::tokens::current_kind;
 use cursor::tokens::current_range;
+use kinds::Operator;
 use kinds::TypeWord;
 use types::items::Listed;
 use types::items::NO_KIDS;
@@ -157,11 +159,15 @@ pub fn items_end(rule: u32) -> u8
     kinds::CLOSE_BRACE
 }
 
-// The operator of a compound assignment, by its place in the chain of signs.
-pub fn operator_of(which: usize) -> u32
-    ensures { λ r. ⌜ r ≡ operatorOf which ⌝ }
+// The operator of a compound assignment as its record keeps it, by the kind of its sign.
+pub fn operator_of(sign: u8) -> u32
+    ensures { λ r. ⌜ r ≡ operatorOf sign ⌝ }
 {
-    kinds::ADD as u32 - 3 + ((which % 8) as u32)
+    let found = kinds::assign_op(sign as u32);
+    match found {
+        Operator::Binary(op) => kinds::op_kind(op) as u32,
+        Operator::Nothing => 0,
+    }
 }
 
 // A literal as a table's key, and its colon.
@@ -227,7 +233,7 @@ pub fn paren_key(
     }
 }
 
-// `break` and `continue`, by their place in the chain of an atom.
+// `break` and `continue`.
 pub fn leaf(
     tokens: &[u32],
     nodes: &mut [u32],
@@ -243,7 +249,7 @@ pub fn leaf(
         Moved::On(t) => t,
         Moved::Failed(f) => return Built::Failed(f),
     };
-    if which == 12 {
+    if which == forms::BREAK {
         return close(nodes, s1, nodes::BREAK, from, 0, 0, 0, 0);
     }
     close(nodes, s1, nodes::CONTINUE, from, 0, 0, 0, 0)
@@ -260,7 +266,7 @@ pub fn loop_names(
 ) -> Rowed
     ensures { λ r. ⌜ ((y e x : List ℕ) → asRowed r (world (now (nodes .exit)) e x (now (live .exit))) ≡ loopNames (sheet y (now (tokens .entry)) limits) which s (world (now (nodes .entry)) e x (now (live .entry)))) ⌝ }
 {
-    if which == 10 {
+    if which == forms::WHILE {
         return Rowed::Row(s, NO_KIDS);
     }
     let named = names(tokens, nodes, live, limits, s);

@@ -29,13 +29,13 @@ use Rattle.parts.specs.declared.values.Expr.the-variants as sorts
 use Rattle.parts.specs.Steps.{checkedType, braced, noMember, typeChecked, typeCheckAt, typeCheck}
 use Rattle.parts.specs.Records.{couple}
 use Rattle.parts.specs.Recovery.{afterStmt}
-use Rattle.exprs.specs.Inner.{expr}
-use Rattle.exprs.specs.Levels.{knot, programRecord, program}
-use Rattle.exprs.specs.Body.{stmtOr, bodyTurn, body}
-use Rattle.exprs.specs.Statements.{assign, plain, stmt}
-use Rattle.exprs.specs.Precedence.{unary, operated, infixBy, infixTurn, precedence}
-use Rattle.exprs.specs.Atoms.{group, form, atom, primary}
-use Rattle.exprs.specs.Primary.{access, postfixTurn, primaryOf}
+use Rattle.rules.specs.Inner.{expr}
+use Rattle.rules.specs.Levels.{knot, programRecord, program}
+use Rattle.rules.specs.Body.{stmtOr, bodyTurn, body}
+use Rattle.rules.specs.Statements.{assign, plain, stmt}
+use Rattle.rules.specs.Precedence.{unary, operated, infixBy, infixTurn, precedence}
+use Rattle.rules.specs.Atoms.{group, form, atom, primary}
+use Rattle.rules.specs.Primary.{access, postfixTurn, primaryOf}
 use Rattle.exprs.proofs.exprs.exprs.Reads as exprs
 use Rattle.exprs.proofs.exprs.prec.Reads as prec
 use Rattle.exprs.proofs.program.program.Reads as whole

@@ -6,6 +6,7 @@ use mathlib.Core.Bool.{true, false}
 use Prim.Native.Nat.{ℕ, suc}
 use lib.ListN.{getD}
 use Rattle.kinds.specs.Number as kind
+use Rattle.kinds.specs.Operators.{compoundOf}
 use Rattle.kinds.specs.Kinds.{isTrivia}
 use Rattle.kinds.specs.Spelling.{bytes, equal}
 use Rattle.kinds.specs.TypeWords.{typeWord}
@@ -70,10 +71,12 @@ pub items-end-of-properties-in-a-bracket : (κs : _) (x : _) → items-end.Post 
 unfolding itemsEnd
 items-end-of-properties-in-a-bracket κs x p = apart itself p refl
 
-pub operator-of-the-sign : (κs : _) (x : _) → operator-of.Post κs (3, tt) kind.AddAssign x → ⊥
+pub operator-of-the-sign : (κs : _) (x : _) → operator-of.Post κs (kind.AddAssign, tt) kind.AddAssign x → ⊥
+unfolding compoundOf
 operator-of-the-sign κs x p = apart itself p refl
 
-pub operator-of-the-next-sign : (κs : _) (x : _) → operator-of.Post κs (3, tt) kind.Sub x → ⊥
+pub operator-of-the-next-sign : (κs : _) (x : _) → operator-of.Post κs (kind.AddAssign, tt) kind.Sub x → ⊥
+unfolding compoundOf
 operator-of-the-next-sign κs x p = apart itself p refl
 
 -- parameters, braces and members

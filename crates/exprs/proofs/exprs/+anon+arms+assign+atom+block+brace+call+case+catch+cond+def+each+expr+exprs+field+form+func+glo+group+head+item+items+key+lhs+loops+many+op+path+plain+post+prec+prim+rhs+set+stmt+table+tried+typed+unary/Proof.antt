@@ -1,16 +1,16 @@
 -- The cycle of the rules on expressions, blocks and statements. Each way out is closed by its path lemma, from what the callees ensure and the
 -- arms taken. Depth is used up by `exprs` and `prec` alone, so the measure is twenty for each level and the member's rank within one.
-use Rattle.exprs.proofs.StatementPaths as st
-use Rattle.exprs.proofs.LevelPaths as lv
+use Rattle.rules.proofs.StatementPaths as st
+use Rattle.rules.proofs.LevelPaths as lv
 use Rattle.parts.proofs.AttemptPaths as attempts
 use Rattle.parts.proofs.UntilPaths as until
-use Rattle.exprs.proofs.PrimaryPaths as pm
-use Rattle.exprs.proofs.PrecedencePaths as pc
+use Rattle.rules.proofs.PrimaryPaths as pm
+use Rattle.rules.proofs.PrecedencePaths as pc
 use Rattle.exprs.proofs.Suffixes as sf
-use Rattle.exprs.proofs.TablePaths as tb
-use Rattle.exprs.proofs.AtomPaths as ao
-use Rattle.exprs.proofs.Takes as takes
-use Rattle.exprs.proofs.BodyTakes as btakes
+use Rattle.rules.proofs.TablePaths as tb
+use Rattle.rules.proofs.AtomPaths as ao
+use Rattle.rules.proofs.Takes as takes
+use Rattle.rules.proofs.BodyTakes as btakes
 use Rattle.cursor.proofs.Loops as turning
 use Rattle.cursor.proofs.CheckPaths.{via}
 use Rattle.cursor.proofs.Failures.{erring}
@@ -20,15 +20,15 @@ use Rattle.cursor.specs.Answers.{asMoved, asTest, asEaten, asPicked, asBuilt}
 use Rattle.types.specs.Answers.{asListed, asTurned}
 use Rattle.types.specs.Items.{so}
 use Rattle.parts.specs.Answers.{asParsed, asChained, asRowed, asKidsTurned, asAsked}
-use Rattle.exprs.specs.Statements.{typed, leftTurn, rightTurn}
-use Rattle.exprs.specs.Body.{bodyTurn}
-use Rattle.exprs.specs.Precedence.{infixTurn, handlerTurn}
-use Rattle.exprs.specs.Primary.{postfixTurn}
+use Rattle.rules.specs.Statements.{typed, leftTurn, rightTurn}
+use Rattle.rules.specs.Body.{bodyTurn}
+use Rattle.rules.specs.Precedence.{infixTurn, handlerTurn}
+use Rattle.rules.specs.Primary.{postfixTurn}
 use Rattle.exprs.specs.Suffix.{isSuffix}
-use Rattle.exprs.specs.Tables.{item}
+use Rattle.rules.specs.Tables.{item}
 use Rattle.parts.specs.Until.{untilTurn}
-use Rattle.exprs.specs.Atoms.{caseTurn}
-use Rattle.exprs.specs.Levels.{levels, under}
+use Rattle.rules.specs.Atoms.{caseTurn}
+use Rattle.rules.specs.Levels.{levels, under}
 use Prim.Native.Nat.{ℕ, _+_, _-_, _*_, _/_}
 use mathlib.Core.List.{List, []}
 use mathlib.Core.Path.{_≡_, refl, sym, ap, _∙_}
@@ -2724,6 +2724,22 @@ assign-returns-5 : (t : ℕ) → assign-lts.Need-returns-5 (
   set.Post,
 ) (assign-at t) assign.Post
 assign-returns-5 t c = let c₁ = c .before in let c₂ = c₁ .before in let c₃ = c₂ .before in let c₄ = c₃ .before .before in let c₅ = c₄ .before .before in let c₆ = c₅ .before .before .before .before in let c₇ = c₆ .before .before .before .before .before .before .before .before in sym (st.assign-none _ _ _ _ (via asParsed (c₇ .prec .ensures) (c₆ .read .given .1)) (via asPicked (c₅ .pick .ensures _ _ _ _ _) (c₄ .picked .given .1)) (c₃ .if1 .left) (c₂ .if2 .left) (c₁ .if3 .taken) (c .link-of .ensures))
+
+assign-array-read-sign : (t : ℕ) → assign-lts.Need-array-read-sign (
+  prec-below t,
+  prec.Post,
+  pick-reads.Asked,
+  pick-reads.Learnt,
+  many-below t,
+  many.Post,
+  typed-below t,
+  typed.Post,
+  link-of-reads.Asked,
+  link-of-reads.Learnt,
+  set-below t,
+  set.Post,
+) (assign-at t) assign.Post
+assign-array-read-sign t c = search needs
 
 assign-set-requires : (t : ℕ) → assign-lts.Need-set-requires (
   prec-below t,
@@ -20922,6 +20938,7 @@ pub +anon+arms+assign+atom+block+brace+call+case+catch+cond+def+each+expr+exprs+
     (assign-same-length-14 t)
     (assign-same-length-15 t)
     (assign-returns-5 t)
+    (assign-array-read-sign t)
     (assign-set-requires t)
     (assign-same-length-16 t)
     (assign-same-length-17 t)

@@ -1,5 +1,5 @@
 -- `program` meets its contract: its statements are read, and its record is built.
-use Rattle.exprs.proofs.LevelPaths as paths
+use Rattle.rules.proofs.LevelPaths as paths
 use Rattle.cursor.proofs.CheckPaths.{via}
 use Rattle.parts.specs.Answers.{asRowed}
 use mathlib.Core.Path.{_≡_, sym, _∙_}

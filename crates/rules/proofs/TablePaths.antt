@@ -16,12 +16,12 @@ use Rattle.types.specs.declared.items.Items.{Items}
 use Rattle.types.specs.Items.{close, pair, so}
 use Rattle.types.proofs.TypePaths.{starts}
 use Rattle.parts.specs.Values.{rowWith}
-use Rattle.exprs.specs.Inner.{Inner, expr}
+use Rattle.rules.specs.Inner.{Inner, expr}
 use Rattle.parts.specs.Records.{listRecord, blockRecord}
 use Rattle.parts.specs.Recovery.{undo}
 use Rattle.parts.specs.Steps.{itemsEnd, litKey, parenKey}
 use Rattle.parts.specs.Until.{untilTurn, itemsUntil}
-use Rattle.exprs.specs.Tables.{key, property, item, itemsOf, table, braceBlock, tableOrBlock, brace}
+use Rattle.rules.specs.Tables.{key, property, item, itemsOf, table, braceBlock, tableOrBlock, brace}
 use Rattle.parts.proofs.AttemptPaths as attempts
 
 module _ (r : Inner) where

@@ -14,12 +14,12 @@ use Rattle.types.specs.declared.items.Items.{Items}
 use Rattle.types.specs.Lits.{ident}
 use Rattle.parts.specs.declared.values.Expr.{Expr}
 use Rattle.parts.specs.Values.{linkOf, rowOf}
-use Rattle.exprs.specs.Inner.{Inner, expr}
+use Rattle.rules.specs.Inner.{Inner, expr}
 use Rattle.parts.specs.Records.{callRecord, memberRecord}
 use Rattle.parts.specs.Steps.{braced, noMember, metaEnd}
-use Rattle.exprs.specs.Blocks.{block}
-use Rattle.exprs.specs.Tables.{itemsOf}
-use Rattle.exprs.specs.Primary.{memberChain, member, access, call, postfixTurn}
+use Rattle.rules.specs.Blocks.{block}
+use Rattle.rules.specs.Tables.{itemsOf}
+use Rattle.rules.specs.Primary.{memberChain, member, access, call, postfixTurn}
 
 -- what stands behind a member's opening token
 module _ (r : Inner) (which : ℕ) (s : State) (w : World) where

@@ -7,7 +7,7 @@ use Rattle.cursor.specs.Rule.{Rule, _>>=_, _>>_}
 use Rattle.cursor.specs.Checks.{expect}
 use Rattle.cursor.specs.Records.{add}
 use Rattle.types.specs.Items.{start}
-use Rattle.exprs.specs.Inner.{Inner, expr}
+use Rattle.rules.specs.Inner.{Inner, expr}
 use Rattle.parts.specs.Records.{blockRecord}
 
 module _ (r : Inner) where

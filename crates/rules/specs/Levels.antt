@@ -13,9 +13,9 @@ use Rattle.types.specs.Types.{atoms}
 use Rattle.types.specs.Patterns.{patterns}
 use Rattle.parts.specs.declared.values.Expr.{Expr}
 use Rattle.parts.specs.declared.values.Left.{Left}
-use Rattle.exprs.specs.Inner.{Inner}
-use Rattle.exprs.specs.Precedence.{precedence}
-use Rattle.exprs.specs.Body.{body}
+use Rattle.rules.specs.Inner.{Inner}
+use Rattle.rules.specs.Precedence.{precedence}
+use Rattle.rules.specs.Body.{body}
 
 -- the two rules of this crate that use up a level
 pub record Knot : Type 0 where

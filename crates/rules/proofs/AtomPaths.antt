@@ -18,15 +18,16 @@ use Rattle.types.specs.Lits.{lit, ident}
 use Rattle.types.specs.Items.{close}
 use Rattle.types.proofs.TypePaths.{starts}
 use Rattle.parts.specs.declared.values.Expr.{Expr}
+use Rattle.parts.specs.Forms as forms
 use Rattle.parts.specs.Values.{atomExpr, rowOf}
-use Rattle.exprs.specs.Inner.{Inner, expr}
+use Rattle.rules.specs.Inner.{Inner, expr}
 use Rattle.parts.specs.Records.{rowRecord, listRecord, fnRecord, ifRecord, roundRecord}
 use Rattle.parts.specs.Steps.{leaf, loopNames, casePatterns}
-use Rattle.exprs.specs.Blocks.{block, andBlock}
-use Rattle.exprs.specs.Functions.{function}
-use Rattle.exprs.specs.Tables.{itemsOf, brace}
-use Rattle.exprs.specs.Primary.{postfixTurn, primaryOf}
-use Rattle.exprs.specs.Atoms.{atomChain, group, doFunction, anonFunction, anon, alternate, ifElse, matchCase, caseTurn, cases, loops, form, atom, primary}
+use Rattle.rules.specs.Blocks.{block, andBlock}
+use Rattle.rules.specs.Functions.{function}
+use Rattle.rules.specs.Tables.{itemsOf, brace}
+use Rattle.rules.specs.Primary.{postfixTurn, primaryOf}
+use Rattle.rules.specs.Atoms.{atomChain, group, doFunction, anonFunction, anon, alternate, ifElse, matchCase, caseTurn, cases, loops, form, atom, primary}
 
 module _ (r : Inner) where
   module _ (from which : ℕ) (s : State) (w : World) where
@@ -36,21 +37,21 @@ module _ (r : Inner) where
     group-spent p = rw p
 
     module _ {s1 : State} {w1 : World} (p : bump (r .sheet) s w ≡ done s1 w1 tt) where
-      pub group-list : {o : Out Items} → which ≡ 3 → o ≡ itemsOf r 1 noKids s1 w1 → group r from which s w ≡ bind o (λ s2 w2 i. listRecord node.List from i s2 w2)
+      pub group-list : {o : Out Items} → which ≡ forms.OpenBracket → o ≡ itemsOf r 1 noKids s1 w1 → group r from which s w ≡ bind o (λ s2 w2 i. listRecord node.List from i s2 w2)
       unfolding group
       group-list t a = rw a (rw p (rw (eq-eqb _ _ t)))
 
-      module _ (t : which ≡ 3 → ⊥) where
+      module _ (t : which ≡ forms.OpenBracket → ⊥) where
         pub group-failed : {x : Stop} → expr r true s1 w1 ≡ failed x → group r from which s w ≡ failed x
         unfolding group
         group-failed q = rw p (rw (ne-eqb _ _ t) (rw q))
 
         module _ {link : ℕ} {s2 : State} {w2 : World} (q : expr r true s1 w1 ≡ done s2 w2 link) where
-          pub group-return : which ≡ 14 → group r from which s w ≡ close node.Return from 0 0 0 link s2 w2
+          pub group-return : which ≡ forms.Return → group r from which s w ≡ close node.Return from 0 0 0 link s2 w2
           unfolding group
           group-return u = rw p (rw (ne-eqb _ _ t) (rw q (rw (eq-eqb _ _ u))))
 
-          module _ (u : which ≡ 14 → ⊥) where
+          module _ (u : which ≡ forms.Return → ⊥) where
             pub group-open : {x : Stop} → expect (r .sheet) kind.CloseParen s2 w2 ≡ failed x → group r from which s w ≡ failed x
             unfolding group
             group-open a = rw p (rw (ne-eqb _ _ t) (rw q (rw (ne-eqb _ _ u) (rw a))))
@@ -60,21 +61,21 @@ module _ (r : Inner) where
             group-paren a = rw p (rw (ne-eqb _ _ t) (rw q (rw (ne-eqb _ _ u) (rw a))))
 
     -- a function without a name: what is read of it goes into its expression
-    pub anon-closure : {o : Out ℕ} → which ≡ 5 → o ≡ function r from true s w → anon r from which s w ≡ bind o (λ s1 w1 f. fnRecord from ranged.Nowhere 0 f s1 w1)
+    pub anon-closure : {o : Out ℕ} → which ≡ forms.VBar → o ≡ function r from true s w → anon r from which s w ≡ bind o (λ s1 w1 f. fnRecord from ranged.Nowhere 0 f s1 w1)
     unfolding anon anonFunction
     anon-closure t a = rw a (rw (eq-eqb _ _ t, anonFunction))
 
-    module _ (t : which ≡ 5 → ⊥) where
+    module _ (t : which ≡ forms.VBar → ⊥) where
       pub anon-spent : {x : Stop} → bump (r .sheet) s w ≡ failed x → anon r from which s w ≡ failed x
       unfolding anon anonFunction
       anon-spent p = rw (ne-eqb _ _ t, anonFunction) (rw p)
 
       module _ {s1 : State} {w1 : World} (p : bump (r .sheet) s w ≡ done s1 w1 tt) where
-        pub anon-fn : {o : Out ℕ} → which ≡ 4 → o ≡ function r from false s1 w1 → anon r from which s w ≡ bind o (λ s2 w2 f. fnRecord from ranged.Nowhere 0 f s2 w2)
+        pub anon-fn : {o : Out ℕ} → which ≡ forms.Fn → o ≡ function r from false s1 w1 → anon r from which s w ≡ bind o (λ s2 w2 f. fnRecord from ranged.Nowhere 0 f s2 w2)
         unfolding anon anonFunction
         anon-fn u a = rw a (rw (ne-eqb _ _ t, anonFunction) (rw p (rw (eq-eqb _ _ u))))
 
-        module _ (u : which ≡ 4 → ⊥) where
+        module _ (u : which ≡ forms.Fn → ⊥) where
           pub anon-failed : {x : Stop} → block r 0 s1 w1 ≡ failed x → anon r from which s w ≡ failed x
           unfolding anon anonFunction doFunction
           anon-failed q = rw (ne-eqb _ _ t, anonFunction) (rw p (rw (ne-eqb _ _ u) (rw q)))
@@ -89,11 +90,11 @@ module _ (r : Inner) where
     loops-spent p = rw p
 
     module _ {s1 : State} {w1 : World} (p : bump (r .sheet) s w ≡ done s1 w1 tt) where
-      pub loops-loop : {o : Out ℕ} → which ≡ 9 → o ≡ block r 0 s1 w1 → loops r from which s w ≡ bind o (λ s2 w2 body. close node.Loop from 0 0 0 body s2 w2)
+      pub loops-loop : {o : Out ℕ} → which ≡ forms.Loop → o ≡ block r 0 s1 w1 → loops r from which s w ≡ bind o (λ s2 w2 body. close node.Loop from 0 0 0 body s2 w2)
       unfolding loops
       loops-loop t a = rw a (rw p (rw (eq-eqb _ _ t)))
 
-      module _ (t : which ≡ 9 → ⊥) where
+      module _ (t : which ≡ forms.Loop → ⊥) where
         pub loops-bare : {x : Stop} → loopNames (r .sheet) which s1 w1 ≡ failed x → loops r from which s w ≡ failed x
         unfolding loops
         loops-bare q = rw p (rw (ne-eqb _ _ t) (rw q))
@@ -216,50 +217,50 @@ module _ (r : Inner) where
 
   -- the forms of an atom, by their place in the chain
   module _ (from which : ℕ) (s : State) (w : World) where
-    pub form-paren : which ≡ 0 → form r from which s w ≡ group r from which s w
+    pub form-paren : which ≡ forms.OpenParen → form r from which s w ≡ group r from which s w
     unfolding form
     form-paren p = rw (eq-eqb _ _ p, form)
 
-    pub form-ident : which ≡ 1 → form r from which s w ≡ ident (r .sheet) s w
+    pub form-ident : which ≡ forms.Ident → form r from which s w ≡ ident (r .sheet) s w
     unfolding form
     form-ident p = rw p
 
-    pub form-brace : which ≡ 2 → form r from which s w ≡ brace r from s w
+    pub form-brace : which ≡ forms.OpenBrace → form r from which s w ≡ brace r from s w
     unfolding form
     form-brace p = rw p
 
-    pub form-list : which ≡ 3 → form r from which s w ≡ group r from which s w
+    pub form-list : which ≡ forms.OpenBracket → form r from which s w ≡ group r from which s w
     unfolding form
     form-list p = rw p
 
-    pub form-if : which ≡ 7 → form r from which s w ≡ ifElse r from s w
+    pub form-if : which ≡ forms.If → form r from which s w ≡ ifElse r from s w
     unfolding form
     form-if p = rw p
 
-    pub form-cases : which ≡ 8 → form r from which s w ≡ cases r from s w
+    pub form-cases : which ≡ forms.Match → form r from which s w ≡ cases r from s w
     unfolding form
     form-cases p = rw p
 
-    pub form-return : which ≡ 14 → form r from which s w ≡ group r from which s w
+    pub form-return : which ≡ forms.Return → form r from which s w ≡ group r from which s w
     unfolding form
     form-return p = rw p
 
-    module _ (n0 : which ≡ 0 → ⊥) (n1 : which ≡ 1 → ⊥) (n2 : which ≡ 2 → ⊥) (n3 : which ≡ 3 → ⊥) where
-      pub form-anon : which < 7 → form r from which s w ≡ anon r from which s w
+    module _ (n0 : which ≡ forms.OpenParen → ⊥) (n1 : which ≡ forms.Ident → ⊥) (n2 : which ≡ forms.OpenBrace → ⊥) (n3 : which ≡ forms.OpenBracket → ⊥) where
+      pub form-anon : which < forms.If → form r from which s w ≡ anon r from which s w
       unfolding form
       form-anon p = rw (ne-eqb _ _ n0, ne-eqb _ _ n1, ne-eqb _ _ n2, ne-eqb _ _ n3, lt-ltb _ _ p, form)
 
-      module _ (l7 : 7 ≤ which) (n7 : which ≡ 7 → ⊥) (n8 : which ≡ 8 → ⊥) where
-        pub form-loops : which < 12 → form r from which s w ≡ loops r from which s w
+      module _ (l7 : forms.If ≤ which) (n7 : which ≡ forms.If → ⊥) (n8 : which ≡ forms.Match → ⊥) where
+        pub form-loops : which < forms.Break → form r from which s w ≡ loops r from which s w
         unfolding form
         form-loops p = rw (ne-eqb _ _ n0, ne-eqb _ _ n1, ne-eqb _ _ n2, ne-eqb _ _ n3, le-ltb _ _ l7, ne-eqb _ _ n7, ne-eqb _ _ n8, lt-ltb _ _ p, form)
 
-        module _ (l12 : 12 ≤ which) where
-          pub form-leaf : which < 14 → form r from which s w ≡ leaf (r .sheet) from which s w
+        module _ (l12 : forms.Break ≤ which) where
+          pub form-leaf : which < forms.Return → form r from which s w ≡ leaf (r .sheet) from which s w
           unfolding form
           form-leaf p = rw (ne-eqb _ _ n0, ne-eqb _ _ n1, ne-eqb _ _ n2, ne-eqb _ _ n3, le-ltb _ _ l7, ne-eqb _ _ n7, ne-eqb _ _ n8, le-ltb _ _ l12, lt-ltb _ _ p, form)
 
-          pub form-lit : 14 ≤ which → (which ≡ 14 → ⊥) → form r from which s w ≡ lit (r .sheet) s w
+          pub form-lit : forms.Return ≤ which → (which ≡ forms.Return → ⊥) → form r from which s w ≡ lit (r .sheet) s w
           unfolding form
           form-lit l14 n14 = rw (ne-eqb _ _ n0, ne-eqb _ _ n1, ne-eqb _ _ n2, ne-eqb _ _ n3, le-ltb _ _ l7, ne-eqb _ _ n7, ne-eqb _ _ n8, le-ltb _ _ l12, le-ltb _ _ l14, ne-eqb _ _ n14, form)
 

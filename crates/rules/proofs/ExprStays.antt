@@ -25,18 +25,18 @@ use Rattle.types.proofs.TypeKeeps.{params-keep, returns-keeps}
 use Rattle.parts.specs.declared.values.Expr.{Expr}
 use Rattle.parts.specs.declared.values.Expr.the-variants as exprs
 use Rattle.parts.specs.Values.{linkOf, rowOf, rowWith}
-use Rattle.exprs.specs.Inner.{Inner}
+use Rattle.rules.specs.Inner.{Inner}
 use Rattle.parts.specs.Steps.{alone, itemsEnd}
-use Rattle.exprs.specs.Blocks.{block, andBlock}
-use Rattle.exprs.specs.Functions.{function, fnStmt}
+use Rattle.rules.specs.Blocks.{block, andBlock}
+use Rattle.rules.specs.Functions.{function, fnStmt}
 use Rattle.parts.specs.Effects.{effectRecord, effectStmt}
 use Rattle.parts.specs.Until.{untilTurn, itemsUntil}
-use Rattle.exprs.specs.Tables.{key, property, item, itemsOf, table, braceBlock, tableOrBlock, brace}
-use Rattle.exprs.specs.Primary.{memberChain, member, access, call, postfixTurn, primaryOf}
-use Rattle.exprs.specs.Atoms.{atomChain, group, doFunction, anonFunction, anon, alternate, ifElse, matchCase, caseTurn, cases, loops, form, atom, primary}
-use Rattle.exprs.specs.Precedence.{unaryChain, handler, handlerTurn, triedBy, tried, negated, unary, operated, infixBy, infixTurn, precedence}
-use Rattle.exprs.proofs.Stays.{Stays, Starts, Opens, opens, bumps, expects, either-opens, opens-at, opens-first, starts-first, starts-then, picks-start, rounds, fails, add-stays, add-some-stays, close-stays, pair-stays, expr-stays}
-use Rattle.exprs.proofs.RecordStays.{couple-stays, row-record-stays, list-record-stays, block-record-stays, fn-record-stays, function-record-stays, handler-record-stays, handlers-flagged-stays, if-record-stays, round-record-stays, call-record-stays, member-record-stays, ident-starts, lit-starts, any-params-starts, braced-stays, no-member-stays, meta-end-stays, lit-key-stays, paren-key-stays, leaf-opens, loop-names-stays, case-patterns-stays, type-check-stays}
+use Rattle.rules.specs.Tables.{key, property, item, itemsOf, table, braceBlock, tableOrBlock, brace}
+use Rattle.rules.specs.Primary.{memberChain, member, access, call, postfixTurn, primaryOf}
+use Rattle.rules.specs.Atoms.{atomChain, group, doFunction, anonFunction, anon, alternate, ifElse, matchCase, caseTurn, cases, loops, form, atom, primary}
+use Rattle.rules.specs.Precedence.{unaryChain, handler, handlerTurn, triedBy, tried, negated, unary, operated, infixBy, infixTurn, precedence}
+use Rattle.rules.proofs.Stays.{Stays, Starts, Opens, opens, bumps, expects, either-opens, opens-at, opens-first, starts-first, starts-then, picks-start, rounds, fails, add-stays, add-some-stays, close-stays, pair-stays, expr-stays}
+use Rattle.rules.proofs.RecordStays.{couple-stays, row-record-stays, list-record-stays, block-record-stays, fn-record-stays, function-record-stays, handler-record-stays, handlers-flagged-stays, if-record-stays, round-record-stays, call-record-stays, member-record-stays, ident-starts, lit-starts, any-params-starts, braced-stays, no-member-stays, meta-end-stays, lit-key-stays, paren-key-stays, leaf-opens, loop-names-stays, case-patterns-stays, type-check-stays}
 
 -- lists of items
 module _ (e : Sheet) where

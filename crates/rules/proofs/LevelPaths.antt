@@ -16,12 +16,12 @@ use Rattle.cursor.specs.Attempts.{recover}
 use Rattle.types.specs.Items.{start}
 use Rattle.types.proofs.TypePaths.{starts}
 use Rattle.parts.specs.declared.values.Expr.{Expr}
-use Rattle.exprs.specs.Inner.{Inner}
-use Rattle.exprs.specs.Precedence.{unary, infixTurn, precedence}
-use Rattle.exprs.specs.Statements.{stmt}
+use Rattle.rules.specs.Inner.{Inner}
+use Rattle.rules.specs.Precedence.{unary, infixTurn, precedence}
+use Rattle.rules.specs.Statements.{stmt}
 use Rattle.parts.specs.Recovery.{recovering, afterStmt}
-use Rattle.exprs.specs.Body.{stmtOr, bodyTurn, body}
-use Rattle.exprs.specs.Levels.{knot, levels, programRecord, program}
+use Rattle.rules.specs.Body.{stmtOr, bodyTurn, body}
+use Rattle.rules.specs.Levels.{knot, levels, programRecord, program}
 
 module _ (r : Inner) where
   -- a statement, or what is left where it failed

@@ -37,7 +37,7 @@ use Rattle.parts.specs.declared.steps.Checked.the-variants as checked
 use Rattle.parts.specs.Values.{linkOf}
 use Rattle.parts.specs.Records.{couple, rowRecord, listRecord, wrapped, blockRecord, fnRecord, functionKind, functionRecord, handlerRecord, handlersFlagged, ifRecord, roundRecord, callRecord, memberRecord}
 use Rattle.parts.specs.Steps.{checkedType, anyParams, braced, noMember, metaEnd, litKey, parenKeyAt, parenKey, leaf, nameTurn, names, loopNames, patternTurn, casePatterns, typeChecked, typeCheckAt, typeCheck}
-use Rattle.exprs.proofs.Stays.{Starts, Opens, bumps, expects, either-starts, starts-first, rounds, add-stays, add-some-stays, close-stays, reflag-stays}
+use Rattle.rules.proofs.Stays.{Starts, Opens, bumps, expects, either-starts, starts-first, rounds, add-stays, add-some-stays, close-stays, reflag-stays}
 
 -- records
 pub couple-stays : (k from word a b : ℕ) → Keeps ground Plain (couple k from word a b)

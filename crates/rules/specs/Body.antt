@@ -8,8 +8,8 @@ use Rattle.cursor.specs.Checks.{eat}
 use Rattle.cursor.specs.Records.{noKids}
 use Rattle.cursor.specs.Attempts.{recover}
 use Rattle.parts.specs.Recovery.{skipped, afterStmt}
-use Rattle.exprs.specs.Inner.{Inner}
-use Rattle.exprs.specs.Statements.{stmt}
+use Rattle.rules.specs.Inner.{Inner}
+use Rattle.rules.specs.Statements.{stmt}
 
 module _ (r : Inner) where
   -- a statement's link; where the statement fails, 0 behind what is skipped

@@ -22,12 +22,12 @@ use Rattle.types.specs.Patterns.{spanOf}
 use Rattle.parts.specs.declared.values.Expr.{Expr}
 use Rattle.parts.specs.declared.values.Expr.the-variants as exprs
 use Rattle.parts.specs.Values.{linkOf, rowOf}
-use Rattle.exprs.specs.Inner.{Inner}
+use Rattle.rules.specs.Inner.{Inner}
 use Rattle.parts.specs.When.{when, failWith}
 use Rattle.parts.specs.Records.{couple, handlerRecord, handlersFlagged}
 use Rattle.parts.specs.Steps.{alone, typeCheck}
-use Rattle.exprs.specs.Blocks.{block}
-use Rattle.exprs.specs.Atoms.{primary}
+use Rattle.rules.specs.Blocks.{block}
+use Rattle.rules.specs.Atoms.{primary}
 
 -- the chain of parse_expr_unary
 abbrev pub unaryChain : List ℕ

@@ -7,6 +7,7 @@ use mathlib.Core.Logic.{_⊎_, inl, inr}
 use native.Mathlib.Omega.{arith}
 use types.Run.{OneOf}
 use denote.Enum.Declared.{tagOf}
+use lib.ListN.{getD}
 use borrow.Author.Tests.{eq-eqb, ne-eqb, lt-ltb, le-ltb}
 use Rattle.kinds.specs.Number as kind
 use Rattle.cursor.specs.declared.State.{State}
@@ -32,14 +33,14 @@ use Rattle.parts.specs.declared.values.Expr.the-variants as exprs
 use Rattle.parts.specs.declared.values.AssignLeft.the-variants as assigns
 use Rattle.parts.proofs.values.Expr as told
 use Rattle.parts.specs.Values.{linkOf, toAssignLeft, rowWith, uncounted}
-use Rattle.exprs.specs.Inner.{Inner, expr}
+use Rattle.rules.specs.Inner.{Inner, expr}
 use Rattle.parts.specs.Records.{couple, rowRecord, blockRecord, fnRecord, functionRecord}
 use Rattle.parts.specs.Steps.{alone, operatorOf, anyParams}
-use Rattle.exprs.specs.Blocks.{block, andBlock}
-use Rattle.exprs.specs.Functions.{function, fnStmt}
+use Rattle.rules.specs.Blocks.{block, andBlock}
+use Rattle.rules.specs.Functions.{function, fnStmt}
 use Rattle.parts.specs.Effects.{effectStmt}
 use Rattle.parts.specs.Imports.{importStmt}
-use Rattle.exprs.specs.Statements.{stmtChain, gloChain, signChain, right, setTo, set, typed, leftOf, leftTurn, lefts, rightTurn, rights, multiTo, multi, assign, gloBy, glo, plain, functionStmt, stmt}
+use Rattle.rules.specs.Statements.{stmtChain, gloChain, signChain, right, setTo, set, typed, leftOf, leftTurn, lefts, rightTurn, rights, multiTo, multi, assign, gloBy, glo, plain, functionStmt, stmt}
 
 module _ (r : Inner) where
   -- an expression's link
@@ -133,22 +134,22 @@ module _ (r : Inner) where
     right-on p = rw p
 
   -- an assignment, with an operator or without
-  module _ (from which : ℕ) (x : Expr) (s : State) (w : World) where
-    pub set-nothing : assigns.Nothing ≡ toAssignLeft x → set r from which x s w ≡ failed (fault s w (unexpectedAt (r .sheet) s))
+  module _ (from sign : ℕ) (x : Expr) (s : State) (w : World) where
+    pub set-nothing : assigns.Nothing ≡ toAssignLeft x → set r from sign x s w ≡ failed (fault s w (unexpectedAt (r .sheet) s))
     unfolding set setTo unexpected
     set-nothing p = rw (← p)
 
     module _ {link : ℕ} (p : assigns.To link ≡ toAssignLeft x) where
-      pub set-spent : {y : Stop} → bump (r .sheet) s w ≡ failed y → set r from which x s w ≡ failed y
+      pub set-spent : {y : Stop} → bump (r .sheet) s w ≡ failed y → set r from sign x s w ≡ failed y
       unfolding set setTo
       set-spent q = rw (← p) (rw q)
 
       module _ {s1 : State} {w1 : World} (q : bump (r .sheet) s w ≡ done s1 w1 tt) where
-        pub set-plain : which ≡ 2 → set r from which x s w ≡ right r from node.Assign 0 link s1 w1
+        pub set-plain : sign ≡ kind.Assign → set r from sign x s w ≡ right r from node.Assign 0 link s1 w1
         unfolding set setTo
         set-plain c = rw (← p) (rw q (rw (eq-eqb _ _ c)))
 
-        pub set-op : {op : ℕ} → (which ≡ 2 → ⊥) → op ≡ operatorOf which → set r from which x s w ≡ right r from node.AssignOp op link s1 w1
+        pub set-op : {op : ℕ} → (sign ≡ kind.Assign → ⊥) → op ≡ operatorOf sign → set r from sign x s w ≡ right r from node.AssignOp op link s1 w1
         unfolding set setTo
         set-op c d = rw (← p) (rw q (rw (ne-eqb _ _ c) (rw d)))
 
@@ -304,7 +305,7 @@ module _ (r : Inner) where
             unfolding assign
             assign-none c d = rw p (rw q (rw (ne-eqb _ _ a) (rw (ne-eqb _ _ b) (rw (lt-ltb _ _ c) (rw d)))))
 
-            pub assign-set : which ≤ 7 → assign r from s w ≡ set r from which x s2 w2
+            pub assign-set : which ≤ 7 → assign r from s w ≡ set r from (getD signChain which 0) x s2 w2
             unfolding assign
             assign-set c = rw p (rw q (rw (ne-eqb _ _ a) (rw (ne-eqb _ _ b) (rw (le-ltb _ _ c)))))
 

@@ -35,12 +35,12 @@ use Rattle.parts.specs.declared.values.Expr.{Expr}
 use Rattle.parts.specs.declared.values.Expr.the-variants as exprs
 use Rattle.parts.proofs.values.Expr as told
 use Rattle.parts.specs.Values.{linkOf, rowOf}
-use Rattle.exprs.specs.Inner.{Inner}
+use Rattle.rules.specs.Inner.{Inner}
 use Rattle.parts.specs.Records.{couple, handlerRecord, handlersFlagged}
 use Rattle.parts.specs.Steps.{alone, typeCheck}
-use Rattle.exprs.specs.Blocks.{block}
-use Rattle.exprs.specs.Atoms.{primary}
-use Rattle.exprs.specs.Precedence.{unaryChain, handler, handlerTurn, triedBy, tried, negated, unary, operated, infixBy, infixTurn}
+use Rattle.rules.specs.Blocks.{block}
+use Rattle.rules.specs.Atoms.{primary}
+use Rattle.rules.specs.Precedence.{unaryChain, handler, handlerTurn, triedBy, tried, negated, unary, operated, infixBy, infixTurn}
 
 module _ (r : Inner) where
   -- a handler of a `try`

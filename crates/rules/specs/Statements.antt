@@ -2,6 +2,7 @@
 use Prim.Native.Nat.{ℕ}
 use mathlib.Core.List.{List, [], _∷_}
 use mathlib.Core.Bool.{true, false}
+use lib.ListN.{getD}
 use lib.Dec.{ltb, eqb}
 use Rattle.kinds.specs.Number as kind
 use Rattle.cursor.specs.declared.Kids.{Kids}
@@ -21,11 +22,11 @@ use Rattle.parts.specs.declared.values.Expr.the-variants as exprs
 use Rattle.parts.specs.declared.values.AssignLeft.{AssignLeft}
 use Rattle.parts.specs.declared.values.AssignLeft.the-variants as assigns
 use Rattle.parts.specs.Values.{linkOf, toAssignLeft, rowWith, uncounted}
-use Rattle.exprs.specs.Inner.{Inner, expr}
+use Rattle.rules.specs.Inner.{Inner, expr}
 use Rattle.parts.specs.When.{when, failWith}
 use Rattle.parts.specs.Records.{couple, rowRecord}
 use Rattle.parts.specs.Steps.{alone, operatorOf}
-use Rattle.exprs.specs.Functions.{fnStmt}
+use Rattle.rules.specs.Functions.{fnStmt}
 use Rattle.parts.specs.Effects.{effectStmt}
 use Rattle.parts.specs.Imports.{importStmt}
 
@@ -46,15 +47,15 @@ module _ (r : Inner) where
     value ← expr r true
     couple k from op link value
 
-  -- an assignment, with an operator or without, whose sign stands here; what may not be assigned to is an error
+  -- an assignment, with an operator or without, whose sign of this kind stands here; what may not be assigned to is an error
   unfoldable pub setTo : ℕ → ℕ → AssignLeft → Rule ℕ
-  setTo from which (assigns.To link) = do
+  setTo from sign (assigns.To link) = do
     bump (r .sheet)
-    when (eqb which 2) (right from node.Assign 0 link) (right from node.AssignOp (operatorOf which) link)
-  setTo from which assigns.Nothing = unexpected (r .sheet)
+    when (eqb sign kind.Assign) (right from node.Assign 0 link) (right from node.AssignOp (operatorOf sign) link)
+  setTo from sign assigns.Nothing = unexpected (r .sheet)
 
   unfoldable pub set : ℕ → ℕ → Expr → Rule ℕ
-  set from which x = setTo from which (toAssignLeft x)
+  set from sign x = setTo from sign (toAssignLeft x)
 
   -- an assignment to a name with a type: a Colon after anything but a plain name is an error
   unfoldable pub typed : ℕ → Expr → Rule ℕ
@@ -122,7 +123,7 @@ module _ (r : Inner) where
   assign from = do
     x ← r .prec 1 true
     which ← pick (r .sheet) signChain
-    when (eqb which 0) (multi from x) (when (eqb which 1) (typed from x) (when (ltb 7 which) (give (linkOf x)) (set from which x)))
+    when (eqb which 0) (multi from x) (when (eqb which 1) (typed from x) (when (ltb 7 which) (give (linkOf x)) (set from (getD signChain which 0) x)))
 
   -- behind `glo`: a function, an effect, or an assignment to a name
   unfoldable pub gloBy : ℕ → Ranged → ℕ → Rule ℕ

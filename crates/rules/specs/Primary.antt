@@ -12,12 +12,12 @@ use Rattle.types.specs.Lits.{ident}
 use Rattle.types.specs.Items.{start}
 use Rattle.parts.specs.declared.values.Expr.{Expr}
 use Rattle.parts.specs.Values.{linkOf, rowOf}
-use Rattle.exprs.specs.Inner.{Inner, expr}
+use Rattle.rules.specs.Inner.{Inner, expr}
 use Rattle.parts.specs.When.{when}
 use Rattle.parts.specs.Records.{callRecord, memberRecord}
 use Rattle.parts.specs.Steps.{braced, noMember, metaEnd}
-use Rattle.exprs.specs.Blocks.{block}
-use Rattle.exprs.specs.Tables.{itemsOf}
+use Rattle.rules.specs.Blocks.{block}
+use Rattle.rules.specs.Tables.{itemsOf}
 
 -- the chain of a member's opening tokens
 abbrev pub memberChain : List ℕ

@@ -13,7 +13,7 @@ use Rattle.types.specs.declared.items.Items.{Items}
 use Rattle.types.specs.Items.{start, close, pair}
 use Rattle.parts.specs.Values.{rowWith}
 use Rattle.parts.specs.Until.{itemsUntil}
-use Rattle.exprs.specs.Inner.{Inner, expr}
+use Rattle.rules.specs.Inner.{Inner, expr}
 use Rattle.parts.specs.When.{when}
 use Rattle.parts.specs.Records.{listRecord, blockRecord}
 use Rattle.parts.specs.Steps.{itemsEnd, litKey, parenKey}

@@ -14,15 +14,16 @@ use Rattle.cursor.specs.Records.{add, noKids, flagged}
 use Rattle.types.specs.Lits.{lit, ident}
 use Rattle.types.specs.Items.{start, close}
 use Rattle.parts.specs.declared.values.Expr.{Expr}
+use Rattle.parts.specs.Forms as forms
 use Rattle.parts.specs.Values.{atomExpr, rowOf}
-use Rattle.exprs.specs.Inner.{Inner, expr}
+use Rattle.rules.specs.Inner.{Inner, expr}
 use Rattle.parts.specs.When.{when}
 use Rattle.parts.specs.Records.{rowRecord, listRecord, fnRecord, ifRecord, roundRecord}
 use Rattle.parts.specs.Steps.{leaf, loopNames, casePatterns}
-use Rattle.exprs.specs.Blocks.{block, andBlock}
-use Rattle.exprs.specs.Functions.{function}
-use Rattle.exprs.specs.Tables.{itemsOf, brace}
-use Rattle.exprs.specs.Primary.{primaryOf}
+use Rattle.rules.specs.Blocks.{block, andBlock}
+use Rattle.rules.specs.Functions.{function}
+use Rattle.rules.specs.Tables.{itemsOf, brace}
+use Rattle.rules.specs.Primary.{primaryOf}
 
 -- the chain of parse_expr_atom
 abbrev pub atomChain : List ℕ
@@ -45,15 +46,15 @@ atomChain =
     ∷ []
 
 module _ (r : Inner) where
-  -- an expression in parentheses (0), a list (3), and `return` with its argument (14)
+  -- an expression in parentheses, a list, and `return` with its argument
   unfoldable pub group : ℕ → ℕ → Rule ℕ
   group from which = do
     bump (r .sheet)
-    when (eqb which 3) (do
+    when (eqb which forms.OpenBracket) (do
       i ← itemsOf r 1 noKids
       listRecord node.List from i) (do
         link ← expr r true
-        when (eqb which 14) (close node.Return from 0 0 0 link) (do
+        when (eqb which forms.Return) (close node.Return from 0 0 0 link) (do
           expect (r .sheet) kind.CloseParen
           close node.Paren from 0 0 0 link))
 
@@ -63,11 +64,11 @@ module _ (r : Inner) where
     body ← block r 0
     close node.Do from 0 0 0 body
 
-  -- the function without a name: `fn` (4), a closure (5) or `do` (6)
+  -- the function without a name: `fn`, a closure or `do`
   unfoldable pub anonFunction : ℕ → ℕ → Rule ℕ
-  anonFunction from which = when (eqb which 5) (function r from true) (do
+  anonFunction from which = when (eqb which forms.VBar) (function r from true) (do
     bump (r .sheet)
-    when (eqb which 4) (function r from false) (doFunction from))
+    when (eqb which forms.Fn) (function r from false) (doFunction from))
 
   -- the expression over it
   unfoldable pub anon : ℕ → ℕ → Rule ℕ
@@ -120,30 +121,31 @@ module _ (r : Inner) where
     row ← iterate (r .sheet) caseTurn (rowOf link)
     close node.Match from 0 0 (flagged (row .count) 0 false false) (row .first)
 
-  -- `loop` (9), `while` (10) and `for` (11)
+  -- `loop`, `while` and `for`
   unfoldable pub loops : ℕ → ℕ → Rule ℕ
   loops from which = do
     bump (r .sheet)
-    when (eqb which 9) (do
+    when (eqb which forms.Loop) (do
       body ← block r 0
       close node.Loop from 0 0 0 body) (do
         names ← loopNames (r .sheet) which
         kids ← andBlock r names
         roundRecord from which (names .count) kids)
 
-  -- the forms of an atom, by their place in the chain; otherwise a literal
+  -- the forms of an atom, in the order of the chain: `fn`, a closure and `do` come before `if`, the loops before `break`, and it and `continue` before
+  -- `return`; otherwise a literal
   unfoldable pub form : ℕ → ℕ → Rule ℕ
   form from which =
-      when (eqb which 0) (group from which)
-      (when (eqb which 1) (ident (r .sheet))
-      (when (eqb which 2) (brace r from)
-      (when (eqb which 3) (group from which)
-      (when (ltb which 7) (anon from which)
-      (when (eqb which 7) (ifElse from)
-      (when (eqb which 8) (cases from)
-      (when (ltb which 12) (loops from which)
-      (when (ltb which 14) (leaf (r .sheet) from which)
-      (when (eqb which 14) (group from which) (lit (r .sheet)))))))))))
+      when (eqb which forms.OpenParen) (group from which)
+      (when (eqb which forms.Ident) (ident (r .sheet))
+      (when (eqb which forms.OpenBrace) (brace r from)
+      (when (eqb which forms.OpenBracket) (group from which)
+      (when (ltb which forms.If) (anon from which)
+      (when (eqb which forms.If) (ifElse from)
+      (when (eqb which forms.Match) (cases from)
+      (when (ltb which forms.Break) (loops from which)
+      (when (ltb which forms.Return) (leaf (r .sheet) from which)
+      (when (eqb which forms.Return) (group from which) (lit (r .sheet)))))))))))
 
   -- parse_expr_atom
   unfoldable pub atom : Rule Expr

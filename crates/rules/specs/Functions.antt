@@ -7,10 +7,10 @@ use Rattle.cursor.specs.Rule.{Rule, _>>=_, _>>_}
 use Rattle.cursor.specs.Checks.{expect}
 use Rattle.types.specs.Lits.{ident}
 use Rattle.types.specs.Types.{returns}
-use Rattle.exprs.specs.Inner.{Inner}
+use Rattle.rules.specs.Inner.{Inner}
 use Rattle.parts.specs.Records.{fnRecord, functionRecord}
 use Rattle.parts.specs.Steps.{anyParams}
-use Rattle.exprs.specs.Blocks.{block}
+use Rattle.rules.specs.Blocks.{block}
 
 module _ (r : Inner) where
   -- parse_function, and the same of a closure

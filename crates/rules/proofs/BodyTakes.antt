@@ -25,13 +25,13 @@ use Rattle.cursor.proofs.Keeps.{Plain, ground-stands, gives, binds, thens}
 use Rattle.cursor.proofs.Kept.{bump-keeps, eat-keeps, eat-eol-keeps, log-keeps}
 use Rattle.cursor.proofs.Spends.{Spends, Further, takes, spares, either-spends, then-spends}
 use Rattle.types.specs.Items.{addSome}
-use Rattle.exprs.specs.Inner.{Inner}
+use Rattle.rules.specs.Inner.{Inner}
 use Rattle.parts.specs.When.{when}
 use Rattle.parts.specs.Recovery.{skipTurn, skip, skipped, logHere, lineEnd, afterStmt}
-use Rattle.exprs.specs.Body.{stmtOr, bodyTurn}
-use Rattle.exprs.specs.Levels.{levels}
-use Rattle.exprs.proofs.Stays.{Stays, add-some-stays}
-use Rattle.exprs.proofs.StmtStays.{stmt-starts, skip-stays, log-here-stays, after-stmt-stays, knot-stays}
+use Rattle.rules.specs.Body.{stmtOr, bodyTurn}
+use Rattle.rules.specs.Levels.{levels}
+use Rattle.rules.proofs.Stays.{Stays, add-some-stays}
+use Rattle.rules.proofs.StmtStays.{stmt-starts, skip-stays, log-here-stays, after-stmt-stays, knot-stays}
 
 -- a kind is one of these
 pub data Among (k : ℕ) : List ℕ → Type 0 where

@@ -2,6 +2,7 @@
 use mathlib.Core.Path.{refl}
 use mathlib.Core.Bool.{true, false}
 use Prim.Native.Nat.{ℕ, zero, suc}
+use lib.ListN.{getD}
 use lib.Dec.{ltb, eqb}
 use Rattle.kinds.specs.Number as kind
 use Rattle.cursor.specs.declared.Kids.{Kids}
@@ -29,18 +30,18 @@ use Rattle.parts.specs.declared.values.AssignLeft.the-variants as assigns
 use Rattle.parts.specs.declared.imports.Imported.{Imported}
 use Rattle.parts.specs.Answers.{onPath}
 use Rattle.parts.specs.Values.{toAssignLeft, rowWith, uncounted}
-use Rattle.exprs.specs.Inner.{Inner}
+use Rattle.rules.specs.Inner.{Inner}
 use Rattle.parts.specs.When.{when, failWith}
 use Rattle.parts.specs.Steps.{alone, operatorOf}
 use Rattle.parts.specs.Effects.{effectStmt}
 use Rattle.parts.specs.Imports.{endChain, tailChain, importItem, importItems, importEnd, importTail, pathTurn, importStmt}
-use Rattle.exprs.specs.Statements.{stmtChain, gloChain, signChain, right, setTo, set, typed, leftOf, leftTurn, lefts, rightTurn, rights, multiTo, multi, assign, gloBy, glo, plain as plainStmt, functionStmt, stmt}
+use Rattle.rules.specs.Statements.{stmtChain, gloChain, signChain, right, setTo, set, typed, leftOf, leftTurn, lefts, rightTurn, rights, multiTo, multi, assign, gloBy, glo, plain as plainStmt, functionStmt, stmt}
 use Rattle.parts.specs.Recovery.{skipTurn, skip, skipped, logHere, lineEnd, afterStmt}
-use Rattle.exprs.specs.Body.{stmtOr, bodyTurn, body}
-use Rattle.exprs.specs.Levels.{knot, levels}
-use Rattle.exprs.proofs.Stays.{Stays, Starts, Opens, opens, bumps, either-opens, either-starts, opens-at, starts-first, starts-then, picks-start, rounds, fails, add-stays, add-some-stays, close-stays, pair-stays, expr-stays}
-use Rattle.exprs.proofs.RecordStays.{ident-starts, couple-stays, row-record-stays}
-use Rattle.exprs.proofs.ExprStays.{items-until-stays, effect-stmt-starts, fn-stmt-starts, precedence-starts}
+use Rattle.rules.specs.Body.{stmtOr, bodyTurn, body}
+use Rattle.rules.specs.Levels.{knot, levels}
+use Rattle.rules.proofs.Stays.{Stays, Starts, Opens, opens, bumps, either-opens, either-starts, opens-at, starts-first, starts-then, picks-start, rounds, fails, add-stays, add-some-stays, close-stays, pair-stays, expr-stays}
+use Rattle.rules.proofs.RecordStays.{ident-starts, couple-stays, row-record-stays}
+use Rattle.rules.proofs.ExprStays.{items-until-stays, effect-stmt-starts, fn-stmt-starts, precedence-starts}
 
 -- imports
 module _ (e : Sheet) where
@@ -92,14 +93,14 @@ module _ {r : Inner} (h : Stays r) where
   unfolding right
   right-stays from k op link = binds (expr-stays h true) (λ value _. couple-stays k from op link value)
 
-  pub set-to-stays : (from which : ℕ) (l : AssignLeft) → Keeps ground Plain (setTo r from which l)
+  pub set-to-stays : (from sign : ℕ) (l : AssignLeft) → Keeps ground Plain (setTo r from sign l)
   unfolding setTo
-  set-to-stays from which (assigns.To link) = thens (bump-keeps (r .sheet)) (ifs (eqb which 2) (right-stays from node.Assign 0 link) (right-stays from node.AssignOp (operatorOf which) link))
-  set-to-stays from which assigns.Nothing = unexpected-keeps (r .sheet)
+  set-to-stays from sign (assigns.To link) = thens (bump-keeps (r .sheet)) (ifs (eqb sign kind.Assign) (right-stays from node.Assign 0 link) (right-stays from node.AssignOp (operatorOf sign) link))
+  set-to-stays from sign assigns.Nothing = unexpected-keeps (r .sheet)
 
-  pub set-stays : (from which : ℕ) (x : Expr) → Keeps ground Plain (set r from which x)
+  pub set-stays : (from sign : ℕ) (x : Expr) → Keeps ground Plain (set r from sign x)
   unfolding set
-  set-stays from which x = set-to-stays from which (toAssignLeft x)
+  set-stays from sign x = set-to-stays from sign (toAssignLeft x)
 
   pub typed-stays : (from : ℕ) (x : Expr) → Keeps ground Plain (typed r from x)
   unfolding typed
@@ -151,7 +152,7 @@ module _ {r : Inner} (h : Stays r) where
   pub assign-starts : (from : ℕ) → Starts (r .sheet) (assign r from)
   unfolding assign
   assign-starts from =
-      starts-first (h .prec 1 true) (λ x. binds (pick-keeps (r .sheet) signChain 0) (λ which _. ifs (eqb which 0) (multi-stays from x) (ifs (eqb which 1) (typed-stays from x) (ifs (ltb 7 which) (gives tt) (set-stays from which x)))))
+      starts-first (h .prec 1 true) (λ x. binds (pick-keeps (r .sheet) signChain 0) (λ which _. ifs (eqb which 0) (multi-stays from x) (ifs (eqb which 1) (typed-stays from x) (ifs (ltb 7 which) (gives tt) (set-stays from (getD signChain which 0) x)))))
 
   pub glo-by-stays : (from : ℕ) (here : Ranged) (which : ℕ) → Keeps ground Plain (gloBy r from here which)
   unfolding gloBy

@@ -22,7 +22,7 @@ use Rattle.cursor.proofs.Kept.{bump-keeps, expect-keeps, pick-keeps, append-kee
 use Rattle.cursor.proofs.Spends.{Spends, Feeds, feeds, first-spends, first-feeds, then-spends}
 use Rattle.cursor.proofs.Spent.{noEof, bump-feeds, expect-spends, pick-spends}
 use Rattle.types.specs.Items.{close, pair, addSome}
-use Rattle.exprs.specs.Inner.{Inner, expr}
+use Rattle.rules.specs.Inner.{Inner, expr}
 use Rattle.parts.specs.When.{failWith}
 
 -- a loop whose turns never move back

@@ -1,0 +1,13 @@
+pub mod AtomPaths
+pub mod BodyTakes
+pub mod ExprStays
+pub mod LevelPaths
+pub mod Places
+pub mod PrecedencePaths
+pub mod PrimaryPaths
+pub mod RecordStays
+pub mod StatementPaths
+pub mod Stays
+pub mod StmtStays
+pub mod TablePaths
+pub mod Takes
