@@ -1172,6 +1172,7 @@ fn form(
             which,
         );
     }
+    // `fn`, a closure or `do`
     if which < forms::IF {
         return anon(
             text,
@@ -1192,6 +1193,7 @@ fn form(
     if which == forms::MATCH {
         return arms(text, tokens, nodes, errors, wanted, live, left, s, from);
     }
+    // `loop`, `while` or `for`
     if which < forms::BREAK {
         return loops(
             text,
@@ -1206,6 +1208,7 @@ fn form(
             which,
         );
     }
+    // `break` or `continue`
     if which < forms::RETURN {
         return leaf(tokens, nodes, limits, s, from, which);
     }
