@@ -1,5 +1,5 @@
 -- What is read off the derivations of Examples: that each tree is the one which the table of known outcomes has for the sheet
--- (crates/known/specs/Known.antt; that crate is over the parser, so its trees are written out again here), the words and the depth.
+-- (crates/known/specs/Known.antt; that crate is over the parser, so its trees are written out again here), and the words.
 use Prim.Native.Nat.{ℕ}
 use mathlib.Core.Path.{_≡_, refl}
 use mathlib.Core.List.{List, [], _∷_}
@@ -16,7 +16,6 @@ use Rattle.grammar.specs.Shape.{shape}
 use Rattle.grammar.specs.Follows.{treeOf}
 use Rattle.grammar.specs.Words.{among, range, tokenWords, ownWord, words}
 use Rattle.grammar.specs.Words as word
-use Rattle.grammar.specs.Depth.{need}
 use Rattle.grammar.proofs.Examples.{alone, product-tokens, product, empty-table, number-block, nothing, braced, nested, group-table, nameless}
 
 -- a record: its kind, start and end, two words and flags
@@ -62,8 +61,3 @@ product-words = refl
 product-token-words : tokenWords (tokensOf product-tokens) ≡ range 0 1 ∷ range 5 8 ∷ range 11 12 ∷ []
 unfolding tokenWords tokensOf among
 product-token-words = refl
-
--- the innermost name stands seven levels below the statements
-nested-levels : (text : List ℕ) → need (nested text .body) ≡ 7
-unfolding nested braced alone need
-nested-levels text = refl

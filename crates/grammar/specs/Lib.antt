@@ -5,4 +5,3 @@ pub mod Builders
 pub mod Shape
 pub mod Follows
 pub mod Words
-pub mod Depth

@@ -7,8 +7,8 @@ use Rattle.grammar.specs.Symbols.{Sym}
 use Rattle.grammar.specs.Derives.{Derives}
 use Rattle.grammar.specs.Derives as by
 use Rattle.grammar.specs.Follows.{Follows}
-use Rattle.grammar.proofs.Cost.{costs, cost}
-use Rattle.grammar.proofs.Leading.{literal-reads}
+use Rattle.complete.proofs.Cost.{costs, cost}
+use Rattle.complete.proofs.Leading.{literal-reads}
 use Rattle.marks.specs.Marks.{Stand, Leading, Within, opening, marksAt, marks, readings}
 use Rattle.marks.proofs.Sums.{Sums, total, none, place, taking, _⊕_, level, front, behind, opens, as-key, group-key, as-name, in-block}
 

@@ -9,7 +9,7 @@ use Rattle.grammar.specs.Places.{Token, Place, Tok}
 use Rattle.grammar.specs.Symbols.{Stmt, Stmts, Body}
 use Rattle.grammar.specs.Derives.{Derives}
 use Rattle.grammar.specs.Derives as by
-use Rattle.grammar.proofs.Cost.{takenIn, taken, spent, one-spent, Costs, flat, keyed, nameless, fronted, opened, costs}
+use Rattle.complete.proofs.Cost.{takenIn, taken, spent, one-spent, Costs, flat, keyed, nameless, fronted, opened, costs}
 use Rattle.marks.specs.Marks.{Stand, Leading, First, Within, opening, again, asKey, asName, markIn, mark, token, readings}
 
 -- tokens with these marks are read so often

@@ -12,11 +12,11 @@ use Rattle.cursor.specs.Checks.{liveRoom}
 use Rattle.cursor.specs.Tree.{size}
 use Rattle.entry.specs.declared.Entry.the-variants as entries
 use Rattle.grammar.specs.Follows.{Follows, treeOf}
-use Rattle.grammar.specs.Depth.{need}
-use Rattle.grammar.proofs.Cost.{cost}
-use Rattle.grammar.proofs.SizeOf.{size-all}
-use Rattle.grammar.proofs.Meets.{few-nodes, few-levels, few-reads, full}
-use Rattle.grammar.proofs.MeetsProgram.{Finds, finds, lacks, program-meets}
+use Rattle.complete.specs.Depth.{need}
+use Rattle.complete.proofs.Cost.{cost}
+use Rattle.complete.proofs.SizeOf.{size-all}
+use Rattle.complete.proofs.Meets.{few-nodes, few-levels, few-reads, full}
+use Rattle.complete.proofs.MeetsProgram.{Finds, finds, lacks, program-meets}
 use Rattle.marks.specs.Marks.{marks, readings}
 use Rattle.marks.proofs.Marked.{cost-marks}
 use Rattle.live.proofs.Program.{program-bounded}

@@ -20,11 +20,11 @@ use Rattle.rules.specs.Levels.{under, program}
 use Rattle.grammar.specs.Places.{tokensOf}
 use Rattle.grammar.specs.Follows.{Follows, treeOf}
 use Rattle.grammar.specs.Words.{tokenWords, words}
-use Rattle.grammar.proofs.Links.{in-range}
+use Rattle.sound.proofs.Links.{in-range}
 use Rattle.grammar.proofs.Unambiguous.{one-tree}
 use Rattle.grammar.proofs.WordsOfAll.{words-all}
-use Rattle.grammar.proofs.MeetsProgram.{Finds, finds, program-meets}
-use Rattle.grammar.proofs.SoundProgram.{SheetRead, program-sound}
+use Rattle.complete.proofs.MeetsProgram.{Finds, finds, program-meets}
+use Rattle.sound.proofs.SoundProgram.{SheetRead, program-sound}
 use Rattle.marks.specs.Marks.{marks, readings}
 use Rattle.marks.proofs.Marked.{cost-marks}
 use Rattle.parser.specs.Blank.{upTo, blank}

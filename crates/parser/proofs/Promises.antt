@@ -10,7 +10,7 @@ use Rattle.grammar.specs.Places.{tokensOf}
 use Rattle.grammar.specs.Follows.{Follows, treeOf}
 use Rattle.grammar.specs.Words.{tokenWords, words}
 use Rattle.grammar.proofs.Unambiguous.{one-tree}
-use Rattle.grammar.proofs.SoundProgram.{SheetRead}
+use Rattle.sound.proofs.SoundProgram.{SheetRead}
 use Rattle.marks.specs.Marks.{marks, readings}
 use Rattle.parser.specs.Outcome.{Outcome}
 use Rattle.parser.specs.Parse.{parse}

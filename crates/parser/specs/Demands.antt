@@ -11,7 +11,7 @@ use Rattle.entry.specs.Check.{entryOf}
 use Rattle.grammar.specs.Places.{tokensOf}
 use Rattle.grammar.specs.Follows.{Follows, treeOf}
 use Rattle.grammar.specs.Words.{tokenWords, words}
-use Rattle.grammar.specs.Depth.{need}
+use Rattle.complete.specs.Depth.{need}
 use Rattle.marks.specs.Marks.{marks, readings}
 use Rattle.parser.specs.Outcome.{Outcome}
 use Rattle.parser.specs.Parse.{depth}
