@@ -79,6 +79,7 @@ module _ (e : Sheet) where
     pub calm : Settled (e .tokens) s1
     pub place : placeAt (e .tokens) s1 ≡ q
     pub errors : s1 .errors ≡ s .errors
+    pub wanted : s1 .wanted ≡ s .wanted
     pub reads : s1 .reads ≡ s .reads + c .reads
     pub paid : s1 .reads ≤ max (s .reads) (e .limits .allowance)
     pub nodes : s1 .nodes ≡ s .nodes + c .nodes
@@ -130,12 +131,12 @@ module _ {e : Sheet} {d : ℕ} where
   lacks-later x l = lacks (omega (arith, x .reads)) (omega (arith, x .nodes)) (omega arith) (x .long) l
 
 -- nothing was taken
-pub remains : {e : Sheet} {d : ℕ} {p : Place} {s s1 : State} {w w1 : World} → Settled (e .tokens) s1 → placeAt (e .tokens) s1 ≡ p → s1 .errors ≡ s .errors → s1 .reads ≡ s .reads → s1 .nodes ≡ s .nodes → length (w1 .nodes) ≡ length (w .nodes)
+pub remains : {e : Sheet} {d : ℕ} {p : Place} {s s1 : State} {w w1 : World} → Settled (e .tokens) s1 → placeAt (e .tokens) s1 ≡ p → s1 .errors ≡ s .errors → s1 .wanted ≡ s .wanted → s1 .reads ≡ s .reads → s1 .nodes ≡ s .nodes → length (w1 .nodes) ≡ length (w .nodes)
     → Arrived e d p nothing s w s1 w1
-remains h z f g i l = record { calm = h; place = z; errors = f; reads = omega (arith, g); paid = omega (arith, g); nodes = omega (arith, i); housed = omega (arith, i); deep = omega arith; long = l }
+remains h z f x g i l = record { calm = h; place = z; errors = f; wanted = x; reads = omega (arith, g); paid = omega (arith, g); nodes = omega (arith, i); housed = omega (arith, i); deep = omega arith; long = l }
 
 pub stays : {e : Sheet} {d : ℕ} {p : Place} {s : State} {w : World} → Settled (e .tokens) s → placeAt (e .tokens) s ≡ p → Arrived e d p nothing s w s w
-stays h z = remains h z refl refl refl refl
+stays h z = remains h z refl refl refl refl refl
 
 pub arrived-trans : {e : Sheet} {d : ℕ} {a b : Cost} {q v : Place} {s s1 s2 : State} {w w1 w2 : World} → Arrived e d q a s w s1 w1 → Arrived e d v b s1 w1 s2 w2 → Arrived e d v (a ⊕ b) s w s2 w2
-arrived-trans x y = record { calm = y .calm; place = y .place; errors = y .errors ∙ x .errors; reads = omega (arith, x .reads, y .reads); paid = omega (arith, x .paid, y .paid); nodes = omega (arith, x .nodes, y .nodes); housed = omega (arith, x .housed, y .housed, x .long); deep = omega (arith, x .deep, y .deep); long = y .long ∙ x .long }
+arrived-trans x y = record { calm = y .calm; place = y .place; errors = y .errors ∙ x .errors; wanted = y .wanted ∙ x .wanted; reads = omega (arith, x .reads, y .reads); paid = omega (arith, x .paid, y .paid); nodes = omega (arith, x .nodes, y .nodes); housed = omega (arith, x .housed, y .housed, x .long); deep = omega (arith, x .deep, y .deep); long = y .long ∙ x .long }

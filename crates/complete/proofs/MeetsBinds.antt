@@ -46,7 +46,7 @@ module _ {e : Sheet} {A : Type 0} {d : ℕ} {p q : Place} {P : A → Type 0} {r 
   fits {a} {b} f g h x = record { runs = λ s w i z. go s w (x .runs s w i z) }
     where
       go : (s : State) (w : World) {o : Out A} → EndsAt e d a q P s w o → EndsAt e d b q P s w o
-      go s w (arrives y i) = arrives (record { calm = y .calm; place = y .place; errors = y .errors; reads = omega (arith, y .reads); paid = y .paid; nodes = omega (arith, y .nodes); housed = y .housed; deep = omega (arith, h, y .deep); long = y .long }) i
+      go s w (arrives y i) = arrives (record { calm = y .calm; place = y .place; errors = y .errors; wanted = y .wanted; reads = omega (arith, y .reads); paid = y .paid; nodes = omega (arith, y .nodes); housed = y .housed; deep = omega (arith, h, y .deep); long = y .long }) i
       go s w (short l) = short (lacks (omega arith) (omega arith) (omega (arith, h)) refl l)
 
   -- with one level more
@@ -54,7 +54,7 @@ module _ {e : Sheet} {A : Type 0} {d : ℕ} {p q : Place} {P : A → Type 0} {r 
   deeper {c} x = record { runs = λ s w i z. go s w (x .runs s w i z) }
     where
       go : (s : State) (w : World) {o : Out A} → EndsAt e d c q P s w o → EndsAt e (suc d) (inside c) q P s w o
-      go s w (arrives y i) = arrives (record { calm = y .calm; place = y .place; errors = y .errors; reads = y .reads; paid = y .paid; nodes = y .nodes; housed = y .housed; deep = omega (arith, y .deep); long = y .long }) i
+      go s w (arrives y i) = arrives (record { calm = y .calm; place = y .place; errors = y .errors; wanted = y .wanted; reads = y .reads; paid = y .paid; nodes = y .nodes; housed = y .housed; deep = omega (arith, y .deep); long = y .long }) i
       go s w (short (few-nodes l)) = short (few-nodes l)
       go s w (short (few-levels l)) = short (few-levels (omega arith))
       go s w (short (few-reads l)) = short (few-reads l)

@@ -48,7 +48,7 @@ module _ {e : Sheet} {A B : Type 0} {d : ℕ} {p v : Place} {a b : Cost} {Q : B 
   retried first l m other = record { runs = λ s w h z. go s w h z (first .fails s w h z) }
     where
       on : (s s1 : State) (w w1 : World) {o : Out B} → s1 .reads ≡ s .reads + a .reads → s1 .reads ≤ max (s .reads) (e .limits .allowance) → length (w1 .nodes) ≡ length (w .nodes) → EndsAt e d b v Q (rewind s s1) w1 o → EndsAt e d (undone a b) v Q s w o
-      on s s1 w w1 f k g (arrives y h) = arrives (record { calm = y .calm; place = y .place; errors = y .errors; reads = omega (arith, f, y .reads); paid = omega (arith, k, y .paid); nodes = y .nodes; housed = omega (arith, y .housed, g); deep = y .deep; long = y .long ∙ g }) h
+      on s s1 w w1 f k g (arrives y h) = arrives (record { calm = y .calm; place = y .place; errors = y .errors; wanted = y .wanted; reads = omega (arith, f, y .reads); paid = omega (arith, k, y .paid); nodes = y .nodes; housed = omega (arith, y .housed, g); deep = y .deep; long = y .long ∙ g }) h
       on s s1 w w1 f k g (short x) = short (lacks (omega (arith, f)) (omega arith) (omega arith) g x)
 
       go : (s : State) (w : World) → Settled (e .tokens) s → placeAt (e .tokens) s ≡ p → {o : Out A} → FailsAt e d a s w o → EndsAt e d (undone a b) v Q s w (orElse o (λ s1 w1 x. k x s1 w1) (λ s1 w1 f. back (rewind s s1) w1))

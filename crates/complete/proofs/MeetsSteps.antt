@@ -70,10 +70,10 @@ module _ {e : Sheet} {d : ℕ} where
   unfolding bump count
   bump-at s w h = ends-if (ltb (s .at) (count (e .tokens)))
       (λ q. let l = ltb-true (s .at) (count (e .tokens)) q in let t = taken-here e s h l in ends-if (ltb (s .reads) (e .limits .allowance))
-      (λ f. let g = ltb-true (s .reads) (e .limits .allowance) f in arrives (record { calm = record { settled = calm-settle (e .tokens) (s .at + 1) }; place = sym (after-place (e .tokens) s h l); errors = refl; reads = omega (arith, t); paid = omega (arith, g); nodes = omega arith; housed = omega arith; deep = omega arith; long = refl }) tt)
+      (λ f. let g = ltb-true (s .reads) (e .limits .allowance) f in arrives (record { calm = record { settled = calm-settle (e .tokens) (s .at + 1) }; place = sym (after-place (e .tokens) s h l); errors = refl; wanted = refl; reads = omega (arith, t); paid = omega (arith, g); nodes = omega arith; housed = omega arith; deep = omega arith; long = refl }) tt)
       (λ f. let g = ltb-false (s .reads) (e .limits .allowance) f in short (few-reads (omega (arith, t, g)))))
       (λ q. let l = ltb-false (s .at) (count (e .tokens)) q in let f : s .reads ≡ s .reads + taken (placeAt (e .tokens) s) = omega (arith, taken-end e s l) in let g : s .nodes ≡ s .nodes + 0 = omega arith in
-      arrives (record { calm = record { settled = h .settled }; place = sym (after-end e s l); errors = refl; reads = f; paid = omega arith; nodes = g; housed = omega arith; deep = omega arith; long = refl }) tt)
+      arrives (record { calm = record { settled = h .settled }; place = sym (after-end e s l); errors = refl; wanted = refl; reads = f; paid = omega arith; nodes = g; housed = omega arith; deep = omega arith; long = refl }) tt)
 
   pub bump-meets : {p q : Place} → after p ≡ q → Meets e d p q (reading (taken p)) Any (bump e)
   bump-meets {p} t = record { runs = λ s w h z. subst (λ y. EndsAt e d (reading (taken p)) y Any s w (bump e s w)) t (subst (λ x. EndsAt e d (reading (taken x)) (after x) Any s w (bump e s w)) z (bump-at s w h)) }
@@ -85,7 +85,7 @@ module _ {e : Sheet} {d : ℕ} where
   module _ {p : Place} (k : ℕ) where
     want-meets : Meets e d p p nothing Any (want k)
     unfolding want
-    want-meets = record { runs = λ s w h z. ends-if (ltb (s .live) liveRoom) (λ _. arrives (remains (record { settled = h .settled }) z refl refl refl refl) tt) (λ _. short full) }
+    want-meets = record { runs = λ s w h z. ends-if (ltb (s .live) liveRoom) (λ _. arrives (remains (record { settled = h .settled }) z refl refl refl refl refl) tt) (λ _. short full) }
 
     pub check-yes : Here k p → Meets e d p p nothing (λ b. b ≡ true) (check e k)
     unfolding check
@@ -144,22 +144,22 @@ module _ {e : Sheet} {d : ℕ} where
   unfolding append
   append-meets l first = record {
     runs = λ s w h z. ends-if (ltb (s .nodes) (roomFor w))
-        (λ q. arrives (record { calm = record { settled = h .settled }; place = z; errors = refl; reads = omega arith; paid = omega arith; nodes = refl; housed = omega (arith, ltb-true (s .nodes) (roomFor w) q); deep = omega arith; long = write-length (w .nodes) (s .nodes) l first }) tt)
+        (λ q. arrives (record { calm = record { settled = h .settled }; place = z; errors = refl; wanted = refl; reads = omega arith; paid = omega arith; nodes = refl; housed = omega (arith, ltb-true (s .nodes) (roomFor w) q); deep = omega arith; long = write-length (w .nodes) (s .nodes) l first }) tt)
         (λ q. short (few-nodes (omega (arith, ltb-false (s .nodes) (roomFor w) q))));
   }
 
   pub add-meets : {p : Place} (kids : Kids) (link : ℕ) → Meets e d p p nothing (λ k. k ≡ added kids link) (add kids link)
-  add-meets kids link = record { runs = λ s w h z. rw (add-is kids link s w) (arrives (remains h z refl refl refl (linked-length (w .nodes) (kids .last) link)) refl) }
+  add-meets kids link = record { runs = λ s w h z. rw (add-is kids link s w) (arrives (remains h z refl refl refl refl (linked-length (w .nodes) (kids .last) link)) refl) }
 
   pub reflag-meets : {p : Place} (link flags : ℕ) → Meets e d p p nothing Any (reflag link flags)
   unfolding reflag
   reflag-meets zero flags = record { runs = λ s w h z. arrives (stays h z) tt }
-  reflag-meets (suc i) flags = record { runs = λ s w h z. arrives (remains h z refl refl refl (put-length (w .nodes) _ flags)) tt }
+  reflag-meets (suc i) flags = record { runs = λ s w h z. arrives (remains h z refl refl refl refl (put-length (w .nodes) _ flags)) tt }
 
   -- all Eols here
   trivia-meets : {p : Place} → Meets e d p p nothing Any (eatTrivia e)
   unfolding eatTrivia
-  trivia-meets {p} = record { runs = λ s w h z. arrives (remains (record { settled = calm-settle (e .tokens) (s .at) }) (still s ∙ z) refl refl refl refl) tt }
+  trivia-meets {p} = record { runs = λ s w h z. arrives (remains (record { settled = calm-settle (e .tokens) (s .at) }) (still s ∙ z) refl refl refl refl refl) tt }
     where
       still : (s : State) → _≡_ {A = Place} (record { prev = s .prev; rest = view (e .tokens) (pastTrivia (e .tokens) (s .at)) }) (placeAt (e .tokens) s)
       still s = rw (view-settle (e .tokens) (s .at)) refl

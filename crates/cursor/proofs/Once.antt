@@ -1,6 +1,5 @@
 -- Each record of a finished tree is met exactly once when the tree is read, and no other record is.
 use mathlib.Core.Path.{_≡_, refl, _∙_}
-use mathlib.Core.Bool.{Bool, true, false}
 use mathlib.Core.List.{List}
 use Prim.Native.Nat.{ℕ, zero, suc, _+_, _-_, _<_, _≤_}
 use native.Mathlib.Omega.{arith}
@@ -11,22 +10,8 @@ use borrow.Author.Tests.{eq-eqb, ne-eqb, lt-ltb, le-ltb}
 use Rattle.cursor.specs.declared.Label.{Label}
 use Rattle.cursor.specs.Layout.{FIRST, NEXT}
 use Rattle.cursor.specs.Tree.{Trees, word}
+use Rattle.cursor.specs.Visits.{times, met, uses}
 use Rattle.cursor.proofs.Finished.{after, Built, built, Row, nil, snoc, built-in, row-le}
-
--- 1 where a test holds, otherwise 0
-abbrev pub times : Bool → ℕ
-times true = 1
-times false = 0
-
--- how often `trees`, reading from a link on, comes to record i
-unfoldable pub met : ℕ → List ℕ → ℕ → ℕ → ℕ
-met zero xs link i = 0
-met (suc k) xs zero i = 0
-met (suc k) xs (suc r) i = times (eqb i r) + (met k xs (word xs r FIRST) i + met k xs (word xs r NEXT) i)
-
--- how often `meaning` does
-unfoldable pub uses : List ℕ → ℕ → ℕ → ℕ
-uses xs root i = times (eqb i root) + met (length xs) xs (word xs root FIRST) i
 
 module _ (i : ℕ) where
   -- 1 for the records below n

@@ -14,7 +14,8 @@ use Rattle.cursor.specs.Tree.{Trees, tree, size, word, label, trees, mea
 use Rattle.cursor.proofs.Finished.{after, Built, Row, built-in, built-label, built-keep, row-le, row-end, row-keep, Agree, agree-below}
 use Rattle.cursor.proofs.Writes.{put-length, put-below, write-agree, write-length}
 use Rattle.cursor.proofs.Meaning.{built-meaning, built-size, row-meaning, row-size}
-use Rattle.cursor.proofs.Once.{uses, built-once}
+use Rattle.cursor.specs.Visits.{uses}
+use Rattle.cursor.proofs.Once.{built-once}
 
 -- what one entry is, lo being the count when it was begun: a finished tree, with the links to its root and to its last child; a row under
 -- construction, with the links to its first and its last child; or what a buffer held below the count

@@ -7,5 +7,6 @@ pub mod Checks
 pub mod Layout
 pub mod Records
 pub mod Tree
+pub mod Visits
 pub mod Attempts
 pub mod Node

@@ -13,7 +13,7 @@ use Rattle.cursor.specs.Rule.{World, refusal, refused, Out, done, failed
 use Rattle.cursor.specs.Buffer.{put, copy}
 use Rattle.cursor.specs.Checks.{liveRoom}
 
--- what a 32-bit word keeps of a number. No list of a sheet is long enough to show it
+-- what a 32-bit word keeps of a number. That no list of a sheet is long enough to show it is proved in crate lengths
 abbrev pub word32 : ℕ → ℕ
 word32 n = n % 2 ^ 32
 

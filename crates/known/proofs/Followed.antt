@@ -8,8 +8,8 @@ use lib.ListN.{length, replicate, length-replicate, getD}
 use Rattle.grammar.specs.Follows.{Follows}
 use Rattle.marks.specs.Marks.{marks, readings}
 use Rattle.parser.specs.Parse.{parse}
-use Rattle.parser.specs.Demands.{Clean}
-use Rattle.parser.proofs.Promises.{sound, complete, readings-summed}
+use Rattle.parser.specs.Demands.{Demands}
+use Rattle.parser.proofs.Contract.{demanded}
 use Rattle.known.specs.Known.{
   Seen,
   seen,
@@ -58,18 +58,21 @@ module _ (row : Row) (is : read row ≡ row .outcome) (answered : row .outcome .
   unfolding seen
   is-counted = ap (λ s. s .errors) is
 
+  held : Demands (row .text) (words (row .tokens)) allowance (blank nodeRoom) (parse (row .text) (words (row .tokens)) allowance (blank nodeRoom) (blank errorRoom) (blank expectedRoom))
+  held = demanded _ _ _ _ _ _
+
   -- a derivation, by soundness
   follows : row .outcome .errors ≡ 0 → InGrammar row
-  follows h = sound _ _ _ _ _ _ (record { read = is-read; flawless = is-counted ∙ h })
+  follows h = held .judged is-read .0 (is-counted ∙ h)
 
   -- the readings of any derivation, off the grammar
   summed : (f : InGrammar row) → readings (marks (f .body)) ≡ row .outcome .reads
   unfolding seen
-  summed f = sym (readings-summed _ _ _ _ _ _ f is-read) ∙ ap (λ s. s .reads) is
+  summed f = sym (held .summed (record { read = is-read; flawless = held .judged is-read .1 f }) f) ∙ ap (λ s. s .reads) is
 
   -- none, by completeness
   follows-not : row .outcome .errors ≡ 1 → InGrammar row → ⊥
-  follows-not h f = let z = sym (is-counted ∙ h) ∙ complete _ _ _ _ _ _ f is-read in omega (arith, z)
+  follows-not h f = let z = sym (is-counted ∙ h) ∙ held .judged is-read .1 f in omega (arith, z)
 
 pub empty-follows : InGrammar empty
 empty-follows = follows empty (at 0) refl refl

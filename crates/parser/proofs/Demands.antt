@@ -1,5 +1,5 @@
--- Demands 2 and 3: where the answer is 0, no error is listed exactly when the sheet follows the grammar; then the records are its tree, the tree's
--- words are the sheet's, and the readings are the sum over its marks.
+-- Demands 2 and 3: where the answer is 0, no error is listed exactly when the sheet follows the grammar; then the records are its tree, each of them once,
+-- the tree's words are the sheet's, and the readings are the sum over its marks.
 use mathlib.Core.Path.{_≡_, refl, sym, ap, _∙_, subst}
 use mathlib.Core.List.{List, [], _∷_}
 use Prim.Native.Nat.{ℕ, zero, suc, _-_, _*_, _+_, _/_, _^_, _<_, _≤_}
@@ -10,7 +10,8 @@ use Rattle.cursor.specs.Layout.{nodeWords, cell}
 use Rattle.cursor.specs.Sheet.{Sheet, sheet, count, kindAt}
 use Rattle.cursor.specs.Rule.{World, world, begin, fault, refused, Out, done, failed}
 use Rattle.cursor.specs.Checks.{liveRoom}
-use Rattle.cursor.specs.Tree.{word, meaning}
+use Rattle.cursor.specs.Tree.{word, size, meaning}
+use Rattle.cursor.specs.Visits.{uses}
 use Rattle.cursor.proofs.Finished.{Agree}
 use Rattle.entry.specs.declared.Entry.{Entry}
 use Rattle.entry.specs.declared.Entry.the-variants as entries
@@ -23,6 +24,7 @@ use Rattle.grammar.specs.Words.{tokenWords, words}
 use Rattle.sound.proofs.Links.{in-range}
 use Rattle.grammar.proofs.Unambiguous.{one-tree}
 use Rattle.grammar.proofs.WordsOfAll.{words-all}
+use Rattle.complete.proofs.SizeOf.{size-all}
 use Rattle.complete.proofs.MeetsProgram.{Finds, finds, program-meets}
 use Rattle.sound.proofs.SoundProgram.{SheetRead, program-sound}
 use Rattle.marks.specs.Marks.{marks, readings}
@@ -55,6 +57,8 @@ records-stay m xs = record { at = λ i k p q c n. up-to-below (nodeWords * m) xs
 -- what holds of the outcome for a sheet that follows the grammar, where it is answered 0
 pub record Faultless {text tokens : List ℕ} (f : Follows text tokens) (o : Outcome) : Type 0 where
   pub errors : o .errors ≡ 0
+  pub expected : o .expected ≡ 0
+  pub nodes : o .nodes ≡ size (treeOf f)
   pub reads : o .reads ≡ readings (marks (f .body))
 
 module _ (text tokens : List ℕ) (allowance : ℕ) where
@@ -88,22 +92,11 @@ module _ (text tokens : List ℕ) (allowance : ℕ) where
     pub clean-sheet : Clean (parse text tokens allowance n e x) → SheetRead lent (parse text tokens allowance n e x .records) (parse text tokens allowance n e x .nodes)
     clean-sheet = by-entry (entryOf text tokens) refl (read-has-a-record text tokens allowance n e x)
 
-    -- its tree is the sheet's, by whatever derivation, and the tree's words are the sheet's
-    module _ (c : Clean (parse text tokens allowance n e x)) where
-      pub clean-tree : (f : Follows text tokens) → treeIn (parse text tokens allowance n e x) ≡ treeOf f
-      clean-tree f = let read = clean-sheet c in ap (λ k. meaning (parse text tokens allowance n e x .records) k) (last read) ∙ read .tree-is ∙ one-tree (read .follows) f
-        where
-          last : {zs : List ℕ} {m : ℕ} (read : SheetRead lent zs m) → m - 1 ≡ read .root
-          last read = let h = read .is in omega (arith, h)
-
-      pub clean-words : words (treeIn (parse text tokens allowance n e x)) ≡ tokenWords (tokensOf tokens)
-      clean-words = let f = clean-sheet c .follows in ap words (clean-tree f) ∙ words-all f
-
     -- of a sheet that follows the grammar and is answered 0 no error is listed, and its readings are the sum over its marks
     module _ (f : Follows text tokens) where
       by-reading : (fit : entryOf text tokens ≡ entries.Fit) (n e x : List ℕ) (o : Out ℕ) → Finds lent (within allowance .depth) f (world n e x (replicate liveRoom 0)) o → (finished n e x o .number ≡ 0 → 0 < finished n e x o .nodes) → finished n e x o .number ≡ 0 → Faultless f (finished n e x o)
       unfolding finished
-      by-reading fit n e x (done s w link) (finds a b c d g h) has q = record { errors = a; reads = b ∙ cost-marks f }
+      by-reading fit n e x (done s w link) (finds k) has q = record { errors = k .errors; expected = k .wanted; nodes = k .nodes ∙ sym (size-all f); reads = k .reads ∙ cost-marks f }
       by-reading fit n e x (failed (refused k)) r has q = let h = has q in absurd (omega (arith, h))
 
       by-check : (c : Entry) → entryOf text tokens ≡ c → (parse text tokens allowance n e x .number ≡ 0 → 0 < parse text tokens allowance n e x .nodes) → parse text tokens allowance n e x .number ≡ 0 → Faultless f (parse text tokens allowance n e x)
@@ -113,3 +106,26 @@ module _ (text tokens : List ℕ) (allowance : ℕ) where
 
       pub followed : parse text tokens allowance n e x .number ≡ 0 → Faultless f (parse text tokens allowance n e x)
       followed = by-check (entryOf text tokens) refl (read-has-a-record text tokens allowance n e x)
+
+    -- its tree is the sheet's, by whatever derivation; all records are of that tree, each once; and the tree's words are the sheet's
+    module _ (c : Clean (parse text tokens allowance n e x)) where
+      pub clean-tree : (f : Follows text tokens) → treeIn (parse text tokens allowance n e x) ≡ treeOf f
+      clean-tree f = let read = clean-sheet c in ap (λ k. meaning (parse text tokens allowance n e x .records) k) (last read) ∙ read .tree-is ∙ one-tree (read .follows) f
+        where
+          last : {zs : List ℕ} {m : ℕ} (read : SheetRead lent zs m) → m - 1 ≡ read .root
+          last read = let h = read .is in omega (arith, h)
+
+      pub clean-size : parse text tokens allowance n e x .nodes ≡ size (treeIn (parse text tokens allowance n e x))
+      clean-size = let f = clean-sheet c .follows in followed f (c .read) .nodes ∙ sym (ap size (clean-tree f))
+
+      pub clean-once : (i : ℕ) → i < parse text tokens allowance n e x .nodes → uses (parse text tokens allowance n e x .records) (parse text tokens allowance n e x .nodes - 1) i ≡ 1
+      clean-once i h = go (clean-sheet c) h
+        where
+          go : {ys : List ℕ} {m : ℕ} (read : SheetRead lent ys m) → i < m → uses ys (m - 1) i ≡ 1
+          go {ys} {m} read h = subst (λ r. uses ys r i ≡ 1) (back (read .is)) (read .once i h)
+            where
+              back : {r : ℕ} → m ≡ suc r → r ≡ m - 1
+              back q = omega (arith, q)
+
+      pub clean-words : words (treeIn (parse text tokens allowance n e x)) ≡ tokenWords (tokensOf tokens)
+      clean-words = let f = clean-sheet c .follows in ap words (clean-tree f) ∙ words-all f

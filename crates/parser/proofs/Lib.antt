@@ -4,7 +4,8 @@ pub mod ParsePaths
 pub mod Numbers
 pub mod Theorems
 pub mod Unique
+pub mod Concluded
 pub mod Demands
 pub mod Afforded
 pub mod Contract
-pub mod Promises
+pub mod Weighed

@@ -25,4 +25,4 @@ one-answer-of-parse κs args r s x y p q = one-answer _ (read-has-a-record _ _ _
 
 pub one-lucia-parse : (κs : _) (args : _) (r s : _) (x y : _) → lucia-parse.Post κs args r x → lucia-parse.Post κs args s y
     → handed r (x .1 .1 .1 .1 .1 .1 .0 .now) (x .1 .1 .1 .0 .now) (x .1 .1 .1 .1 .0 .now) (x .1 .1 .1 .1 .1 .0 .now) ≡ handed s (y .1 .1 .1 .1 .1 .1 .0 .now) (y .1 .1 .1 .0 .now) (y .1 .1 .1 .1 .0 .now) (y .1 .1 .1 .1 .1 .0 .now)
-one-lucia-parse κs args r s x y p q = p ∙ sym q
+one-lucia-parse κs args r s x y p q = p .0 ∙ sym (q .0)

@@ -1,7 +1,7 @@
 -- What a reading comes to, as the document tells it: the answer's number, the four counts, and every word of the three buffers.
 use Prim.Native.Nat.{ℕ}
-use mathlib.Core.List.{List}
-use lib.ListN.{set}
+use mathlib.Core.List.{List, [], _∷_}
+use lib.ListN.{getD}
 use Rattle.parser.specs.declared.Told.{Told}
 use Rattle.parser.specs.declared.Answer.{Answer}
 use Rattle.parser.specs.declared.Answer.the-variants as answers
@@ -40,6 +40,10 @@ pub record Handed : Type 0 where
 abbrev pub handed : ℕ → List ℕ → List ℕ → List ℕ → List ℕ → Handed
 handed number c n e x = record { number = number; counts = c; records = n; faults = e; kinds = x }
 
--- an outcome handed over, with its counts in the words that the caller lent for them: readings, node records, errors, expected kinds
-abbrev pub handing : List ℕ → Outcome → Handed
-handing c o = handed (o .number) (set (set (set (set c 0 (o .reads)) 1 (o .nodes)) 2 (o .errors)) 3 (o .expected)) (o .records) (o .faults) (o .kinds)
+-- an outcome handed over, with its counts in the four words that the caller lent for them
+abbrev pub handing : Outcome → Handed
+handing o = handed (o .number) (o .reads ∷ o .nodes ∷ o .errors ∷ o .expected ∷ []) (o .records) (o .faults) (o .kinds)
+
+-- the outcome that a caller reads off what it is handed
+abbrev pub received : Handed → Outcome
+received h = record { number = h .number; reads = getD (h .counts) 0 0; nodes = getD (h .counts) 1 0; errors = getD (h .counts) 2 0; expected = getD (h .counts) 3 0; records = h .records; faults = h .faults; kinds = h .kinds }

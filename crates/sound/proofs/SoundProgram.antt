@@ -21,7 +21,8 @@ use Rattle.cursor.proofs.Ends.{at-done}
 use Rattle.cursor.proofs.Finished.{Agree}
 use Rattle.cursor.proofs.Stack.{bottom, keep, room, top}
 use Rattle.cursor.proofs.Meaning.{built-meaning}
-use Rattle.cursor.proofs.Once.{uses, built-once}
+use Rattle.cursor.specs.Visits.{uses}
+use Rattle.cursor.proofs.Once.{built-once}
 use Rattle.cursor.proofs.Grows.{begin}
 use Rattle.types.specs.Items.{start}
 use Rattle.rules.specs.Body.{body}

@@ -1,0 +1,3 @@
+pub mod Sheets
+pub mod Premises
+pub mod Wrong
