@@ -1,8 +1,7 @@
 -- Demand 3: a sheet past the entry check that follows the grammar is read exactly if there is room for its records, depth for its nesting and an
 -- allowance for the sum over its marks; otherwise it is refused for what there is not enough of.
-use mathlib.Core.Path.{_≡_, refl, sym}
+use mathlib.Core.Path.{_≡_, refl}
 use mathlib.Core.List.{List}
-use mathlib.Core.Logic.{_↔_}
 use Prim.Native.Nat.{ℕ}
 use native.Mathlib.Omega.{arith}
 use lib.ListN.{length, replicate, length-replicate}

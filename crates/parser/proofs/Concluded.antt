@@ -2,11 +2,10 @@
 -- refusals, without 11, since the live list never fills.
 use mathlib.Core.Path.{_≡_, refl}
 use mathlib.Core.List.{List}
-use mathlib.Core.Logic.{_↔_}
 use Prim.Native.Nat.{ℕ, _≤_}
 use native.Mathlib.Omega.{arith}
 use Rattle.cursor.specs.declared.Failure.{Failure}
-use Rattle.cursor.specs.Rule.{begin, refused, Out, done, failed}
+use Rattle.cursor.specs.Rule.{begin, refused, Out, failed}
 use Rattle.cursor.proofs.Ends as ends
 use Rattle.cursor.proofs.Keeps.{Mark, mark, mark-stands, same-refl}
 use Rattle.entry.specs.declared.Refusal.{Refusal}
@@ -22,7 +21,7 @@ use Rattle.parser.specs.Blank.{blank}
 use Rattle.parser.specs.Outcome.{Outcome, unread}
 use Rattle.parser.specs.Finish.{finished}
 use Rattle.parser.specs.Parse.{reading, parse}
-use Rattle.parser.specs.Concluded.{doorNumber, Trimmed, Concluded}
+use Rattle.parser.specs.Concluded.{Trimmed, Concluded}
 use Rattle.parser.proofs.Theorems.{nothing-past}
 
 -- what is known of a sheet that passed the entry check, over the buffers on which it began

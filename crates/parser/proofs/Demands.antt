@@ -2,13 +2,13 @@
 -- the tree's words are the sheet's, and the readings are the sum over its marks.
 use mathlib.Core.Path.{_≡_, refl, sym, ap, _∙_, subst}
 use mathlib.Core.List.{List, [], _∷_}
-use Prim.Native.Nat.{ℕ, zero, suc, _-_, _*_, _+_, _/_, _^_, _<_, _≤_}
+use Prim.Native.Nat.{ℕ, zero, suc, _-_, _*_, _^_, _<_}
 use native.Mathlib.Omega.{arith}
 use lib.ListN.{length, getD, replicate}
 use Rattle.kinds.specs.Number as kind
 use Rattle.cursor.specs.Layout.{nodeWords, cell}
 use Rattle.cursor.specs.Sheet.{Sheet, sheet, count, kindAt}
-use Rattle.cursor.specs.Rule.{World, world, begin, fault, refused, Out, done, failed}
+use Rattle.cursor.specs.Rule.{world, begin, fault, refused, Out, done, failed}
 use Rattle.cursor.specs.Checks.{liveRoom}
 use Rattle.cursor.specs.Tree.{word, size, meaning}
 use Rattle.cursor.specs.Visits.{uses}

@@ -1,17 +1,16 @@
--- The numbers that are told: 0 for a reading, which has at least the program's record, and 1 to 11 for refusals.
-use mathlib.Core.Path.{_≡_, refl, sym, ap, _∙_, subst}
+-- Answered 0, a sheet has at least its program's record, so that no refusal is told as a reading is.
+use mathlib.Core.Path.{_≡_, refl, sym, ap, _∙_}
 use mathlib.Core.List.{List}
-use Prim.Native.Nat.{ℕ, _+_, _/_, _<_, _≤_, min}
+use Prim.Native.Nat.{ℕ, _/_, _<_, min}
 use native.Mathlib.Omega.{arith}
 use lib.Dec.{ltb}
-use lib.ListN.{length, replicate}
+use lib.ListN.{length}
 use Rattle.kinds.specs.Number as kind
 use Rattle.cursor.specs.declared.State.{State}
 use Rattle.cursor.specs.declared.Label.{Label}
 use Rattle.cursor.specs.Layout.{nodeWords, nodeLimit}
-use Rattle.cursor.specs.Rule.{World, world, begin, fault, refused, Out, done, failed, bind}
+use Rattle.cursor.specs.Rule.{World, begin, fault, refused, Out, done, failed, bind}
 use Rattle.cursor.specs.Records.{append}
-use Rattle.cursor.specs.Checks.{liveRoom}
 use Rattle.cursor.proofs.Ends.{Ends, Any, branch}
 use Rattle.cursor.proofs.Ends as ends
 use Rattle.cursor.proofs.Keeps.{Mark, mark, mark-stands, same-refl}
@@ -22,16 +21,16 @@ use Rattle.entry.specs.declared.Entry.the-variants as entries
 use Rattle.entry.specs.Check.{refusalNumber, entryOf}
 use Rattle.types.specs.Items.{start}
 use Rattle.rules.specs.Inner.{Inner}
-use Rattle.rules.specs.Levels.{under, programRecord, program}
+use Rattle.rules.specs.Levels.{programRecord, program}
 use Rattle.blind.proofs.Blind.{no-node, no-error, too-deep, all-spent, too-many-kinds, Twins, well, ill, cut}
 use Rattle.blind.proofs.Program.{program-blind}
 use Rattle.parser.specs.declared.Reading.{Reading}
 use Rattle.parser.specs.declared.Answer.{Answer}
 use Rattle.parser.specs.declared.Answer.the-variants as answers
 use Rattle.parser.specs.Blank.{blank}
-use Rattle.parser.specs.Outcome.{Outcome, unread, told}
+use Rattle.parser.specs.Outcome.{Outcome, told}
 use Rattle.parser.specs.Finish.{finished}
-use Rattle.parser.specs.Parse.{within, reading, parse}
+use Rattle.parser.specs.Parse.{reading, parse}
 
 -- whatever a rule comes to, what goes on from it has a record
 Kept : State → World → ℕ → Type 0

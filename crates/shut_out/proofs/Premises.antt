@@ -1,23 +1,22 @@
 -- The premises of demand 3's clause on refusals are met, on eight sheets: each passes the entry check, follows the grammar, and fits a buffer that has
 -- room for just the records of its tree. So whatever outcome meets `Demands` answers 0 with an allowance of just the sum, and 10 with one less.
-use Prim.Native.Nat.{ℕ, _-_, _<_, _≤_}
+use Prim.Native.Nat.{ℕ, _-_, _<_}
 use native.Mathlib.Omega.{arith}
 use mathlib.Core.Path.{_≡_, refl}
 use mathlib.Core.List.{List, []}
 use Rattle.kinds.specs.Kinds.{isTrivia}
-use Rattle.kinds.specs.Spelling.{bytes}
 use Rattle.cursor.specs.Tree.{size, join}
 use Rattle.grammar.specs.Places.{kindOf, spanOf, after, tokensOf, significant, before, opening}
 use Rattle.grammar.specs.Shape.{shape}
 use Rattle.grammar.specs.Follows.{Follows, treeOf}
-use Rattle.grammar.proofs.Examples.{alone, product-text, product-tokens, product, braces, empty-table, number-tokens, number-block, nothing, braced, nested-tokens, nested, key-tokens, group-table, function-tokens, nameless}
+use Rattle.grammar.proofs.Examples.{alone, product, empty-table, number-block, nothing, braced, nested, group-table, nameless}
 use Rattle.complete.specs.Depth.{need}
-use Rattle.marks.specs.Marks.{again, marksAt, marks, readings}
+use Rattle.marks.specs.Marks.{again, marksAt, readings}
 use Rattle.parser.specs.Outcome.{Outcome}
 use Rattle.parser.specs.Demands.{sum, Clean, Demands}
-use Rattle.parser.proofs.Weighed.{Roomy, Weighed, weighed}
-use Rattle.known.proofs.Opened.{of-kinds, of-ints, of-entry, of-types}
-use Rattle.shut_out.proofs.Sheets.{room, two-text, two-tokens, two, braces-text, nested-text, function-text, nothing-fit, two-fit, product-fit, braces-fit, number-fit, key-fit, nested-fit, function-fit}
+use Rattle.parser.proofs.Weighed.{Roomy, weighed}
+use Rattle.known.proofs.Opened.{of-ints, of-types}
+use Rattle.shut_out.proofs.Sheets.{room, two, braces-text, nested-text, function-text, nothing-fit, two-fit, product-fit, braces-fit, number-fit, key-fit, nested-fit, function-fit}
 
 -- answered 0 with an allowance of that sum, and 10 with one less
 pub record Exact {text tokens : List ℕ} (f : Follows text tokens) (n : List ℕ) (k : ℕ) : Type 0 where

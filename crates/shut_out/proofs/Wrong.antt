@@ -2,12 +2,12 @@
 -- small sheet, with no word of the contract's equation, ends in a contradiction; so do two wrong ends by `Concluded`.
 use mathlib.Core.Path.{_≡_, refl, sym, ap, _∙_}
 use mathlib.Core.List.{List, [], _∷_}
-use mathlib.Core.Bool.{true, false}
-use Prim.Native.Nat.{ℕ, zero, suc, _+_, _-_, _<_, _≤_}
+use mathlib.Core.Bool.{false}
+use Prim.Native.Nat.{ℕ, zero, suc, _+_, _-_}
 use native.Mathlib.Omega.{arith}
 use borrow.Author.Tests.{eqb-false}
 use lib.Dec.{eqb}
-use lib.ListN.{length, replicate, getD}
+use lib.ListN.{replicate, getD}
 use Rattle.kinds.specs.Kinds.{isTrivia}
 use Rattle.cursor.specs.declared.Span.{Span}
 use Rattle.cursor.specs.Layout.{KIND, cell}
