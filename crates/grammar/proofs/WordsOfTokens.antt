@@ -12,6 +12,8 @@ use Rattle.grammar.specs.Places.{Token, Place, kindIn, spanIn, past, kin
 use Rattle.grammar.specs.Derives.{Compound}
 use Rattle.grammar.specs.Derives as by
 use Rattle.grammar.specs.Words.{among, wordKinds, range, given, tokenWords}
+-- so that the trees and words there are checked first
+use Rattle.grammar.proofs.ExampleTrees
 
 -- a kind that is no word
 abbrev pub NoWord : ℕ → Type 0
