@@ -1,13 +1,12 @@
--- No second answer meets a public contract: each is an equation with its answer on one side.
-use Prim.Native.Nat.{ℕ}
+-- No second answer satisfies a contract: of each public function, two answers that its `ensures` admits for the same arguments are one.
+-- `Post` is the contract as the check reads it from the source.
+-- Assumes nothing.
 use mathlib.Core.Path.{_≡_, sym, _∙_}
-use mathlib.Core.List.{List}
-use Rattle.entry.specs.Check.{refusalNumber, entryOf}
-use Rattle.entry.specs.declared.Refusal.{Refusal}
-use Rattle.entry.specs.declared.Entry.{Entry}
+use Rattle.entry.proofs.entry_check.Reads as entry-check
+use Rattle.entry.proofs.refusal_number.Reads as refusal-number
 
-pub entry-check-unique : (text tokens : List ℕ) (r s : Entry) → r ≡ entryOf text tokens → s ≡ entryOf text tokens → r ≡ s
-entry-check-unique text tokens r s p q = p ∙ sym q
+pub entry-check-unique : (κs : _) (args : _) (r s : _) (x y : _) → entry-check.Post κs args r x → entry-check.Post κs args s y → r ≡ s
+entry-check-unique κs args r s x y p q = p ∙ sym q
 
-pub refusal-number-unique : (r : Refusal) (m n : ℕ) → m ≡ refusalNumber r → n ≡ refusalNumber r → m ≡ n
-refusal-number-unique r m n p q = p ∙ sym q
+pub refusal-number-unique : (κs : _) (args : _) (r s : _) (x y : _) → refusal-number.Post κs args r x → refusal-number.Post κs args s y → r ≡ s
+refusal-number-unique κs args r s x y p q = p ∙ sym q
