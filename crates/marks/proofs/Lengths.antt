@@ -10,6 +10,8 @@ use Rattle.grammar.specs.Derives.{Derives}
 use Rattle.grammar.specs.Derives as by
 use Rattle.grammar.specs.Follows.{Follows}
 use Rattle.marks.specs.Marks.{Stand, Leading, First, Within, opening, again, asKey, asName, markIn, mark, token, marksAt, marks}
+-- so that its sums are checked first
+use Rattle.marks.proofs.Examples
 
 -- as many as tokens stand between two places
 pub record Covers (ms : List ℕ) (p q : Place) : Type 0 where

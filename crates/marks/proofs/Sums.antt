@@ -11,6 +11,8 @@ use Rattle.grammar.specs.Derives.{Derives}
 use Rattle.grammar.specs.Derives as by
 use Rattle.complete.proofs.Cost.{takenIn, taken, spent, one-spent, Costs, flat, keyed, nameless, fronted, opened, costs}
 use Rattle.marks.specs.Marks.{Stand, Leading, First, Within, opening, again, asKey, asName, markIn, mark, token, readings}
+-- so that its sums are checked first
+use Rattle.marks.proofs.Examples
 
 -- tokens with these marks are read so often
 pub record Sums (ms : List ℕ) (n : ℕ) : Type 0 where
