@@ -1,5 +1,6 @@
 pub mod Small
 pub mod Exprs
+pub mod Suffix
 pub mod Items
 pub mod Types
 pub mod Records
