@@ -5,6 +5,7 @@ pub mod Numbers
 pub mod Theorems
 pub mod Unique
 pub mod Concluded
+pub mod RuledOut
 pub mod Demands
 pub mod Afforded
 pub mod Contract
