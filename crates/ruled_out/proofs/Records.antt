@@ -8,7 +8,7 @@ use lib.ListN.{getD}
 use Rattle.cursor.specs.declared.State.{State}
 use Rattle.cursor.specs.declared.Ranged.the-variants as ranged
 use Rattle.cursor.specs.declared.Built.the-variants as builds
-use Rattle.cursor.specs.Layout.{KIND, FIRST, NEXT, ONE, FLAGS, cell}
+use Rattle.cursor.specs.Layout.{KIND, END, FIRST, NEXT, ONE, FLAGS, cell}
 use Rattle.cursor.specs.Node as node
 use Rattle.cursor.specs.Rule.{begin, refusal, Next, more, stop}
 use Rattle.cursor.specs.Buffer.{put}
@@ -154,6 +154,11 @@ handlers-flagged-as-arguments κs x p h = unlike (word FLAGS) (p begin [] [] [])
 pub handlers-flagged-lambda-lost : (κs : _) (x : _) → handlers-flagged.Post κs (room, (1, (called, (1, tt)))) tt x → getD (x .0 .now) FLAGS 0 ≡ flagged 2 1 false false → ⊥
 unfolding handlersFlagged reflag put
 handlers-flagged-lambda-lost κs x p h = unlike (word FLAGS) (p begin [] [] []) h refl
+
+-- the end of the call moved to that of its last handler
+pub handlers-flagged-range-grown : (κs : _) (x : _) → handlers-flagged.Post κs (room, (1, (called, (1, tt)))) tt x → getD (x .0 .now) END 0 ≡ 9 → ⊥
+unfolding handlersFlagged reflag put
+handlers-flagged-range-grown κs x p h = unlike (word END) (p begin [] [] []) h refl
 
 -- `if` and loops
 
