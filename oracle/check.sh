@@ -19,7 +19,7 @@ for run in 1 2; do
     done
     echo "run $run: the stored answers came out byte for byte"
 done
-./words.sh target/again-words
+./words.sh target/again-words 2> /dev/null
 cmp ../crates/words/stdin target/again-words/stdin
 cmp ../crates/words/stdout target/again-words/stdout
 echo "the whole answers in crates/words came out byte for byte"

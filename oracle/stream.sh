@@ -1,6 +1,7 @@
 #!/bin/sh
-# stream.sh [COUNT [SEED]]: compares the programs `replay` (listings) and `words` (whole answers) with the original over streams of COUNT random
-# sheets, 100,000 where none is said, in parts of 10,000. It needs no linking, so it works on Arm too, where they run under the kit's emulator.
+# stream.sh [COUNT [SEED]]: compares the programs `replay` (listings) and `words` (whole answers, each sheet with sizes and an allowance of its own)
+# with the original over streams of COUNT random sheets, 100,000 where none is said, in parts of 10,000. It needs no linking, so it works on
+# Arm too, where they run under the kit's emulator.
 # REPLAY and WORDS name the programs, otherwise they are those that `rt check replay words` makes. Needs LUCIA_SRC for the first build of the oracle.
 set -eu
 cd "$(dirname "$0")"
@@ -31,9 +32,10 @@ while [ "$done" -lt "$count" ]; do
     linked/x86 "$replay" < "$part/bundles" > "$part/ours"
     equal=$($bin/compare "$part/bundles" "$part/theirs" "$part/ours")
     echo "seed $seed: $equal"
-    $bin/answers --rule --raw < "$part/bundles" > "$part/theirs"
-    linked/x86 "$words" < "$part/bundles" > "$part/ours"
-    equal=$($bin/compare --raw "$part/bundles" "$part/theirs" "$part/ours")
+    $bin/lend "$seed" < "$part/bundles" > "$part/lent"
+    $bin/answers --rule --raw < "$part/lent" > "$part/theirs"
+    linked/x86 "$words" < "$part/lent" > "$part/ours"
+    equal=$($bin/compare --raw "$part/lent" "$part/theirs" "$part/ours")
     echo "seed $seed: $equal"
     done=$((done + 10000))
     seed=$((seed + 1))

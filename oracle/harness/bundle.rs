@@ -19,7 +19,7 @@ pub struct Bundle {
     pub words: Vec<Word>,
 }
 
-fn number(bytes: &[u8]) -> u32 {
+pub fn number(bytes: &[u8]) -> u32 {
     u32::from_le_bytes([bytes[0], bytes[1], bytes[2], bytes[3]])
 }
 
@@ -43,15 +43,20 @@ impl Bundle {
 
     /// None where the bytes are cut short, are left over, or pass the lister's buffers (refusal 12).
     pub fn from_bytes(bytes: &[u8]) -> Option<Bundle> {
+        Bundle::within(bytes, 16_384, 1_500)
+    }
+
+    /// The same with room for other lengths of the text and of the list of tokens.
+    pub fn within(bytes: &[u8], text: usize, tokens: usize) -> Option<Bundle> {
         let (head, rest) = bytes.split_at_checked(4)?;
         let length = number(head) as usize;
-        if length > 16_384 {
+        if length > text {
             return None;
         }
         let (text, rest) = rest.split_at_checked(length)?;
         let (head, rest) = rest.split_at_checked(4)?;
         let count = number(head) as usize;
-        if count > 1_500 || rest.len() != count * 9 {
+        if count > tokens || rest.len() != count * 9 {
             return None;
         }
         let words = rest

@@ -9,6 +9,8 @@ pub mod cost;
 pub mod damage;
 pub mod entry;
 pub mod grammatical;
+pub mod lent;
+pub mod lent_sheets;
 pub mod listing;
 pub mod probe;
 pub mod records;

@@ -1,10 +1,10 @@
 //! compare BUNDLES THEIRS OURS [--raw]: three streams, bundles and two streams of their listings, or with --raw of their whole answers, of which the
-//! second ends in the number of sheets. Says how many are equal, of each sort. At the first difference it writes the bundle to
-//! difference.bundle beside OURS, shows the first line or byte that differs, and fails.
+//! second ends in the number of sheets. Says how many are equal, of each sort. At the first difference it writes the piece of BUNDLES, with --raw
+//! what is lent and the bundle, to difference.bundle beside OURS, shows the first line or byte that differs, and fails.
 
 use std::{collections::BTreeMap, env, error::Error, fs, fs::File, path::Path};
 
-use lucia::{answer::sort, bundle::read_stream};
+use lucia::{answer::sort, bundle::read_stream, lent};
 
 fn first_line(theirs: &[u8], ours: &[u8]) -> String {
     let (theirs, ours) = (String::from_utf8_lossy(theirs), String::from_utf8_lossy(ours));
@@ -21,16 +21,6 @@ fn first_byte(theirs: &[u8], ours: &[u8]) -> String {
     let shorter = theirs.len().min(ours.len());
     let at = (0..shorter).find(|at| theirs[*at] != ours[*at]).unwrap_or(shorter);
     format!("byte {at} is {:?} in theirs, {:?} in ours", theirs.get(at), ours.get(at))
-}
-
-/// The sort of a whole answer: number first, the count of errors from the tenth byte on.
-fn raw_sort(piece: &[u8]) -> String {
-    match piece {
-        [0, rest @ ..] if rest.get(8..12) == Some(&[0; 4]) => "read without errors".to_owned(),
-        [0, ..] => "read with errors".to_owned(),
-        [number, ..] => format!("refused {number}"),
-        [] => "empty".to_owned(),
-    }
 }
 
 fn main() -> Result<(), Box<dyn Error>> {
@@ -52,7 +42,7 @@ fn main() -> Result<(), Box<dyn Error>> {
             let what = if raw { first_byte(right, left) } else { first_line(right, left) };
             return Err(format!("sheet {number} differs, written to {}: {what}", place.display()).into());
         }
-        let found = if raw { raw_sort(right) } else { sort(&String::from_utf8_lossy(right)).to_owned() };
+        let found = if raw { lent::sort(right) } else { sort(&String::from_utf8_lossy(right)).to_owned() };
         *sorts.entry(found).or_default() += 1;
     }
     let end = format!("{} sheets\n", bundles.len());

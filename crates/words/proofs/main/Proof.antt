@@ -8,7 +8,7 @@ use Rattle.words.proofs.main.Tie as tie
 use borrow.Author.Needs.{needs}
 
 abbrev Inv-loop : tie.InvT-loop
-Inv-loop room₀ i₀ room i = length room ≡ 29893
+Inv-loop room₀ i₀ room i = length room ≡ 102434
 
 abbrev μ-loop : tie.MeasureT-loop
 μ-loop room₀ i₀ room i = 65536 - i

@@ -1,10 +1,10 @@
--- `words::whole_answer` meets its contract: what it lends are the parts of the buffers that were decoded.
+-- `words::lend` meets its contract: what it lends are the parts of the buffers that were decoded.
 -- Assumes nothing.
 use mathlib.Core.Path.{sym}
 use lib.Seq.{length-take-le}
 use Rattle.answer.proofs.Ways.{has-room}
-use Rattle.words.proofs.whole_answer.Statement.{statement}
-use Rattle.words.proofs.whole_answer.Tie as tie
+use Rattle.words.proofs.lend.Statement.{statement}
+use Rattle.words.proofs.lend.Tie as tie
 use borrow.Author.Needs.{needs}
 use native.Mathlib.Omega.{arith}
 
@@ -23,8 +23,8 @@ array-share-prefix-tokens c = let c₁ = c .before .before in let c₂ = c₁ .b
 slice-aggregate-sheet-2 : tie.Need-slice-aggregate-sheet-2
 slice-aggregate-sheet-2 c = let c₁ = c .before .before .before in let c₂ = c₁ .before .before .before .before in sym (length-take-le _ _ (rw (c₂ .decode .kept .1 .1 .0) ((has-room _ _ _ (rw (c₁ .decoded .given .1) at (c₂ .decode .ensures))) .1)))
 
-pub whole-answer-spec : {M : Type 1} → statement M
-whole-answer-spec =
+pub lend-spec : {M : Type 1} → statement M
+lend-spec =
     tie.close (tie.spec
     (λ c. search needs)
     (λ c. search needs)
