@@ -48,7 +48,7 @@ fn just(bundle: &Bundle) -> Lent {
     Lent::whole(counts.records_peak, counts.errors_peak, counts.expected_peak, counts.readings)
 }
 
-/// Each construct, as short as it is: every kind of record, and those of two rules twice.
+/// Each construct, as short as it is; every kind of record is among theirs.
 const CONSTRUCTS: [&str; 54] = [
     // a literal and a name: the slips (a) and (b); a key in parentheses: the slip (c)
     "1", "x", "{(x):1}",
