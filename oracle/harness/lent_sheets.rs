@@ -51,7 +51,7 @@ fn just(bundle: &Bundle) -> Lent {
 /// Each construct, as short as it is; every kind of record is among theirs.
 const CONSTRUCTS: [&str; 54] = [
     // a literal and a name: the slips (a) and (b); a key in parentheses: the slip (c)
-    "1", "x", "{(x):1}",
+    "1", "x", "{(x): 1}",
     "null", "true", "1.5", "\"s\"", "r's'", "b\"s\"", "(x)", "{}", "{1:x}", "{\"k\":1,}", "[x]", "-x", "not x", "a+b", "x is int",
     "a.b", "a::b", "a[b]", "a?.b", "a[#]", "f(a)", "f{}", "f(){}", "try f{}with e(){}", "try f()with e(a,...b){}",
     "if a{}else{}", "if a{}else if b{}", "match x{[a,...]|1=>b}", "match x{{1:a,...}=>b}", "loop{}", "while a{}", "for a,b in c{}",
