@@ -1,0 +1,13 @@
+pub mod Unpack
+pub mod Rows
+pub mod Taken
+pub mod Symbols
+pub mod Few
+pub mod Room
+pub mod Nodes
+pub mod Claims
+pub mod Lists
+pub mod Parts
+pub mod Tells
+pub mod Sheets
+pub mod Examples

@@ -1,0 +1,4 @@
+pub mod Flags
+pub mod Sorts
+pub mod Children
+pub mod Told
