@@ -1,17 +1,14 @@
--- Sheets that the theorems speak of, and children counted by computing.
+-- Sheets that the theorems speak of.
 use mathlib.Core.Path.{_≡_, refl}
 use mathlib.Core.List.{[], _∷_}
-use mathlib.Core.Bool.{true, false}
 use Rattle.kinds.specs.Spelling.{bytes}
-use Rattle.cursor.specs.Node as node
 use Rattle.entry.specs.declared.Entry.the-variants.{Fit}
 use Rattle.entry.specs.Utf8.{fits, firstFit, asciiRun, arrives, noTail}
 use Rattle.entry.specs.Check.{badRange, quoted, marked, badQuotes, tokenFault, tokensFault, entryOf}
 use Rattle.grammar.specs.Follows.{treeOf}
 use Rattle.grammar.proofs.Examples.{product-text, product-tokens, product, number-tokens, number-block, key-tokens, group-table}
-use Rattle.lengths.specs.Flags.{flags}
 use Rattle.lengths.specs.Sorts as sort
-use Rattle.lengths.specs.Children.{one, find, rowOf, total, children}
+use Rattle.lengths.specs.Children.{one}
 use Rattle.lengths.specs.Told.{Told}
 use Rattle.lengths.proofs.Sheets.{fit-told}
 
@@ -36,13 +33,3 @@ number-told = fit-told number-block number-fit
 
 key-told : Told (one sort.Program ∷ []) (treeOf group-table)
 key-told = fit-told group-table key-fit
-
--- a Call of three arguments with a trailing lambda and two handlers has seven children
-call-children : children node.Call (flags 3 2 true false) ≡ 7
-unfolding children rowOf find total
-call-children = refl
-
--- a Match of four cases has five
-match-children : children node.Match (flags 4 0 false false) ≡ 5
-unfolding children rowOf find total
-match-children = refl

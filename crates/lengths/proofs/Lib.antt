@@ -1,3 +1,4 @@
+pub mod Counts
 pub mod Unpack
 pub mod Rows
 pub mod Taken

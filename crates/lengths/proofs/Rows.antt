@@ -10,6 +10,8 @@ use Rattle.cursor.specs.Tree.{Trees, none, join}
 use Rattle.lengths.specs.Sorts.{Sort, Of}
 use Rattle.lengths.specs.Children.{Part, each, one, total, children}
 use Rattle.lengths.specs.Told.{Told, no-more, no-more-of, one-of, width, Counted, counted-none, counted-node}
+-- so that the children counted there are checked first
+use Rattle.lengths.proofs.Counts
 
 -- a row of one
 abbrev pub Single : Sort → Trees → Type 0
