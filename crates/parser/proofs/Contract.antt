@@ -1,12 +1,12 @@
 -- The contracts of `parse` and `lucia_parse` from their equations: the three demands hold of whatever outcome these fix.
-use mathlib.Core.Path.{_≡_, sym, ap, subst}
+use mathlib.Core.Path.{_≡_, refl, sym, ap, _∙_, subst}
 use mathlib.Core.List.{List}
 use Prim.Native.Nat.{ℕ}
 use Rattle.marks.proofs.Lengths.{marks-all}
-use Rattle.parser.specs.Outcome.{Outcome, Handed, handing, received}
+use Rattle.parser.specs.Outcome.{Outcome, Handed, handed, handing}
 use Rattle.parser.specs.Parse.{parse}
-use Rattle.parser.specs.Concluded.{Concluded}
 use Rattle.parser.specs.Demands.{Demands}
+use Rattle.parser.specs.Promised.{Promised, Delivered}
 use Rattle.parser.proofs.Concluded.{concluded}
 use Rattle.parser.proofs.Demands.{clean-sheet, clean-tree, clean-size, clean-once, clean-words, followed}
 use Rattle.parser.proofs.Afforded.{afforded}
@@ -25,9 +25,15 @@ module _ (text tokens : List ℕ) (allowance : ℕ) (n e x : List ℕ) where
     afforded = λ f. afforded text tokens allowance f n e x;
   }
 
-  pub contract : {o : Outcome} → o ≡ parse text tokens allowance n e x → (o ≡ parse text tokens allowance n e x) × (Concluded text tokens n e x o × Demands text tokens allowance n o)
-  contract q = (q, (subst (Concluded text tokens n e x) (sym q) (concluded text tokens allowance n e x), subst (Demands text tokens allowance n) (sym q) demanded))
+  promises : Promised text tokens allowance n e x (parse text tokens allowance n e x)
+  promises = record { same = refl; concluded = concluded text tokens allowance n e x; demanded = demanded }
 
-  -- the same of what a caller in C is handed
-  pub handed-contract : {h : Handed} → h ≡ handing (parse text tokens allowance n e x) → (h ≡ handing (parse text tokens allowance n e x)) × (Concluded text tokens n e x (received h) × Demands text tokens allowance n (received h))
-  handed-contract q = (q, contract (ap received q) .1)
+  pub contract : {o : Outcome} → o ≡ parse text tokens allowance n e x → Promised text tokens allowance n e x o
+  contract q = subst (Promised text tokens allowance n e x) (sym q) promises
+
+  pub handed-contract : {h : Handed} → h ≡ handing (parse text tokens allowance n e x) → Delivered text tokens allowance n e x h
+  handed-contract q = subst (Delivered text tokens allowance n e x) (sym q) (record { counted = refl; promised = promises })
+
+  -- what is handed over is fixed by that
+  pub delivered : {h : Handed} → Delivered text tokens allowance n e x h → h ≡ handing (parse text tokens allowance n e x)
+  delivered {h} d = (λ i. handed (h .number) (d .counted i) (h .records) (h .faults) (h .kinds)) ∙ ap handing (d .promised .same)

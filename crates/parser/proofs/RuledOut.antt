@@ -7,7 +7,7 @@ use mathlib.Core.Bool.{false}
 use Prim.Native.Nat.{ℕ}
 use borrow.Author.Tests.{eqb-false}
 use lib.Dec.{eqb}
-use lib.ListN.{length, getD}
+use lib.ListN.{getD}
 use denote.Ref.{RefT}
 use Rattle.parser.specs.Blank.{upTo}
 use Rattle.parser.proofs.clear.clear_words.Reads as clear-words

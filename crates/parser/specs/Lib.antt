@@ -4,3 +4,4 @@ pub mod Finish
 pub mod Parse
 pub mod Concluded
 pub mod Demands
+pub mod Promised

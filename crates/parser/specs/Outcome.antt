@@ -40,9 +40,13 @@ pub record Handed : Type 0 where
 abbrev pub handed : ℕ → List ℕ → List ℕ → List ℕ → List ℕ → Handed
 handed number c n e x = record { number = number; counts = c; records = n; faults = e; kinds = x }
 
--- an outcome handed over, with its counts in the four words that the caller lent for them
+-- the four counts, as they are handed over: readings, node records, errors, expected kinds
+abbrev pub fourCounts : Outcome → List ℕ
+fourCounts o = o .reads ∷ o .nodes ∷ o .errors ∷ o .expected ∷ []
+
+-- an outcome handed over
 abbrev pub handing : Outcome → Handed
-handing o = handed (o .number) (o .reads ∷ o .nodes ∷ o .errors ∷ o .expected ∷ []) (o .records) (o .faults) (o .kinds)
+handing o = handed (o .number) (fourCounts o) (o .records) (o .faults) (o .kinds)
 
 -- the outcome that a caller reads off what it is handed
 abbrev pub received : Handed → Outcome

@@ -5,11 +5,9 @@ ghost use Prim.Native.Nat.{ℕ};
 ghost use Rattle.cursor.specs.Rule.{world, failed};
 ghost use Rattle.cursor.specs.Answers.{asStop};
 ghost use Rattle.parser.specs.Blank.{upTo};
-ghost use Rattle.parser.specs.Outcome.{told, apart, handed, handing, received};
+ghost use Rattle.parser.specs.Outcome.{told, apart, handed};
 ghost use Rattle.parser.specs.Finish.{Numbered, trimmed, finished};
-ghost use Rattle.parser.specs.Concluded.{Concluded};
-ghost use Rattle.parser.specs.Demands.{Demands};
-ghost use Rattle.parser.specs.Parse.{parse};
+ghost use Rattle.parser.specs.Promised.{Promised, Delivered};
 use clear::clear_bytes;
 use clear::clear_words;
 use cursor::BEGIN;
@@ -82,7 +80,7 @@ fn refuse(nodes: &mut [u32], errors: &mut [u32], expected: &mut [u8], failure: F
 }
 
 // Reads a sheet: text, tokens (kind, start, end, three words each) and the allowance of readings, into the buffers of node records, error
-// records and expected kinds. The equation says all of the answer and the buffers; demand 1 (`Concluded`) and demands 2 and 3 follow from it.
+// records and expected kinds. The contract (specs/Promised.antt) is the equation that says all of the answer and the buffers, and the three demands.
 pub fn parse(
     text: &[u8],
     tokens: &[u32],
@@ -91,7 +89,7 @@ pub fn parse(
     errors: &mut [u32],
     expected: &mut [u8],
 ) -> Answer
-    ensures { λ r. ⌜ (told r (now (nodes .exit)) (now (errors .exit)) (now (expected .exit)) ≡ parse (now (text .entry)) (now (tokens .entry)) allowance (now (nodes .entry)) (now (errors .entry)) (now (expected .entry))) × (Concluded (now (text .entry)) (now (tokens .entry)) (now (nodes .entry)) (now (errors .entry)) (now (expected .entry)) (told r (now (nodes .exit)) (now (errors .exit)) (now (expected .exit))) × Demands (now (text .entry)) (now (tokens .entry)) allowance (now (nodes .entry)) (told r (now (nodes .exit)) (now (errors .exit)) (now (expected .exit)))) ⌝ }
+    ensures { λ r. ⌜ Promised (now (text .entry)) (now (tokens .entry)) allowance (now (nodes .entry)) (now (errors .entry)) (now (expected .entry)) (told r (now (nodes .exit)) (now (errors .exit)) (now (expected .exit))) ⌝ }
 {
     let fit = entry_check(text, tokens);
     match fit {
@@ -155,7 +153,7 @@ pub extern "C" fn lucia_parse(
     expected: &mut [u8],
     counts: &mut [u32; 4],
 ) -> u8
-    ensures { λ r. ⌜ (handed r (now (counts .exit)) (now (nodes .exit)) (now (errors .exit)) (now (expected .exit)) ≡ handing (parse (now (text .entry)) (now (tokens .entry)) allowance (now (nodes .entry)) (now (errors .entry)) (now (expected .entry)))) × (Concluded (now (text .entry)) (now (tokens .entry)) (now (nodes .entry)) (now (errors .entry)) (now (expected .entry)) (received (handed r (now (counts .exit)) (now (nodes .exit)) (now (errors .exit)) (now (expected .exit)))) × Demands (now (text .entry)) (now (tokens .entry)) allowance (now (nodes .entry)) (received (handed r (now (counts .exit)) (now (nodes .exit)) (now (errors .exit)) (now (expected .exit))))) ⌝ }
+    ensures { λ r. ⌜ Delivered (now (text .entry)) (now (tokens .entry)) allowance (now (nodes .entry)) (now (errors .entry)) (now (expected .entry)) (handed r (now (counts .exit)) (now (nodes .exit)) (now (errors .exit)) (now (expected .exit))) ⌝ }
 {
     let answer = parse(text, tokens, allowance, nodes, errors, expected);
     let told = number_of(answer);

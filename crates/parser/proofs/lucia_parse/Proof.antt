@@ -6,7 +6,7 @@ use Rattle.parser.proofs.lucia_parse.Statement.{statement}
 use Rattle.parser.proofs.lucia_parse.Tie as tie
 
 returns : tie.Need-returns
-returns c = handed-contract _ _ _ _ _ _ (ap handing (c .before .number-of .ensures _ _ _ ∙ c .before .before .before .before .before .before .before .before .parse .ensures .0))
+returns c = handed-contract _ _ _ _ _ _ (ap handing (c .before .number-of .ensures _ _ _ ∙ c .before .before .before .before .before .before .before .before .parse .ensures .same))
 
 pub lucia-parse-spec : {M : Type 1} → statement M
 lucia-parse-spec =
