@@ -1,3 +1,4 @@
 pub mod Sheets
 pub mod Premises
 pub mod Wrong
+pub mod Depth
