@@ -3,10 +3,9 @@
 // the node buffer and of the error buffer, the bytes of the expected buffer and the allowance; then a bundle. An answer is the number, the
 // four counts and each lent buffer up to its last word that is not zero, behind the count of these words: so it tells every word. The last
 // piece says how many they were, so that a stream cut short is seen.
-ghost use Prim.Native.Nat.{_<_};
-use libc::STDIN_FILENO;
-use libc::STDOUT_FILENO;
 use listing::Decoded;
+use pieces::Piece;
+use pieces::word;
 
 // The number that stands for a piece that is none: no bundle, or more is lent than there is here.
 const NO_BUNDLE: u8 = 12;
@@ -27,21 +26,6 @@ struct Lent {
     errors: usize,
     expected: usize,
     allowance: u32,
-}
-
-fn wide(byte: u8) -> usize
-    ensures { λ r. ⌜ r < 256 ⌝ }
-{
-    byte as usize
-}
-
-// The number that four bytes spell, the lowest first.
-fn word(a: u8, b: u8, c: u8, d: u8) -> usize
-    ensures { λ r. ⌜ r < 4294967296 ⌝ }
-{
-    let low = wide(a) + 0x100 * wide(b);
-    let high = wide(c) + 0x100 * wide(d);
-    low + 0x1_0000 * high
 }
 
 // One byte more of an answer. The room is that of the longest answer, with all buffers full.
@@ -216,10 +200,10 @@ fn whole_answer(piece: &[u8], out: &mut [u8; 329358]) -> usize {
     if piece.len() < HEAD {
         return put(out, 0, NO_BUNDLE);
     }
-    let nodes = word(piece[0], piece[1], piece[2], piece[3]);
-    let errors = word(piece[4], piece[5], piece[6], piece[7]);
-    let expected = word(piece[8], piece[9], piece[10], piece[11]);
-    let allowance = word(piece[12], piece[13], piece[14], piece[15]) as u32;
+    let nodes = word(piece[0], piece[1], piece[2], piece[3]) as usize;
+    let errors = word(piece[4], piece[5], piece[6], piece[7]) as usize;
+    let expected = word(piece[8], piece[9], piece[10], piece[11]) as usize;
+    let allowance = word(piece[12], piece[13], piece[14], piece[15]);
     let lent = Lent {
         nodes,
         errors,
@@ -229,69 +213,19 @@ fn whole_answer(piece: &[u8], out: &mut [u8; 329358]) -> usize {
     lend(&piece[HEAD..], lent, out)
 }
 
-// One piece of the stream, behind its length.
-fn print(bytes: &[u8]) {
-    let size = bytes.len();
-    let mut head = [0u8; 4];
-    head[0] = (size % 0x100) as u8;
-    head[1] = (size / 0x100 % 0x100) as u8;
-    head[2] = (size / 0x1_0000 % 0x100) as u8;
-    io::write_all(STDOUT_FILENO, &head);
-    io::write_all(STDOUT_FILENO, bytes);
-}
-
+// A function of its own: how long an array that was lent is, is known only where a parameter has its type.
 fn print_answer(out: &[u8; 329358], end: usize) {
-    let bytes: &[u8] = out;
-    if end <= bytes.len() {
-        print(&bytes[..end]);
-    }
-}
-
-// Puts a number's digits before the last line's words, the last digit first, and tells where they start.
-fn put_digits(line: &mut [u8; 18], number: u32) -> usize {
-    let mut i = 10;
-    let mut left = number;
-    while 0 < i {
-        i -= 1;
-        line[i] = 48 + (left % 10) as u8;
-        left /= 10;
-        if left == 0 {
-            return i;
-        }
-    }
-    i
-}
-
-fn print_from(line: &[u8; 18], from: usize) {
-    let bytes: &[u8] = line;
-    if from <= bytes.len() {
-        print(&bytes[from..]);
-    }
-}
-
-fn print_count(number: u32) {
-    let mut line = *b"0000000000 sheets\n";
-    let from = put_digits(&mut line, number);
-    print_from(&line, from);
+    pieces::write(out, end);
 }
 
 // Reads one piece into the room for it and writes its answer; false at the end of the stream.
 fn answer_next(room: &mut [u8]) -> bool {
-    let mut head = [0u8; 4];
-    let n = io::read_full(STDIN_FILENO, &mut head);
-    if n < 4 {
+    let piece = pieces::read(room);
+    let Piece::Bytes(n) = piece else {
         return false;
-    }
-    let size = word(head[0], head[1], head[2], head[3]);
-    if room.len() < size {
-        return false;
-    }
-    let k = io::read_full(STDIN_FILENO, &mut room[..size]);
-    if room.len() < k {
-        return false;
-    }
+    };
     let mut out = [0u8; 329358];
-    let end = whole_answer(&room[..k], &mut out);
+    let end = whole_answer(&room[..n], &mut out);
     print_answer(&out, end);
     true
 }
@@ -306,5 +240,5 @@ fn main() {
         }
         i += 1;
     }
-    print_count(i);
+    pieces::write_count(i);
 }
