@@ -11,52 +11,58 @@ use Rattle.cursor.specs.declared.Span.{Span}
 use Rattle.cursor.specs.declared.Ranged.the-variants as ranged
 use Rattle.cursor.specs.Node as node
 use Rattle.cursor.specs.Sheet.{kindAt, rangeAt}
+use Rattle.cursor.specs.Rule.{Rule}
 use Rattle.cursor.specs.Records.{noKids}
+use Rattle.cursor.proofs.Chosen.{all, _&_}
 use Rattle.types.specs.Patterns.{spanOf}
 use Rattle.parts.specs.declared.values.Expr.{Expr}
 use Rattle.parts.specs.declared.values.Expr.the-variants as exprs
 use Rattle.parts.specs.Values.{linkOf, rowOf}
-use Rattle.parts.specs.Steps.{alone}
+use Rattle.parts.specs.Steps.{Elements, alone}
 use Rattle.rules.specs.Inner.{Inner}
-use Rattle.rules.specs.Atoms.{atomChain, group, doFunction, anonFunction, anon, alternate, ifElse, matchCase, caseTurn, cases, form, atom, primary}
-use Rattle.rules.specs.Atoms as atoms
-use Rattle.rules.specs.Precedence.{unaryChain, handler, handlerTurn, triedBy, tried, negated, unary, operated, infixBy, infixTurn, precedence}
+use Rattle.rules.specs.Atoms.{parenExpr, listExpr, returnExpr, fnExpr, closureExpr, doExpr, alternate, ifExpr, matchCase, caseTurn, matchExpr, loopExpr, whileExpr, forExpr, breakExpr, continueExpr, name, other, atomCases, atom, primary}
+use Rattle.rules.specs.Precedence.{handler, handlerTurn, triedBy, tried, unaryOp, unaryCases, unary, operated, infixBy, infixTurn, precedence}
 use Rattle.blind.proofs.Blind.{Blind, gives, ifs, binds, thens, loops}
-use Rattle.blind.proofs.Cursor.{bump-blind, check-blind, eat-blind, expect-blind, pick-blind, eat-eol-blind, add-blind}
+use Rattle.blind.proofs.Cursor.{bump-blind, check-blind, eat-blind, expect-blind, chooses, eat-eol-blind, add-blind}
 use Rattle.blind.proofs.Items.{start-blind, close-blind, lit-blind, ident-blind}
 use Rattle.blind.proofs.Types.{params-blind}
-use Rattle.blind.proofs.Parts.{fail-with-blind, couple-blind, row-record-blind, list-record-blind, fn-record-blind, handler-record-blind, handlers-flagged-blind, if-record-blind, round-record-blind, leaf-blind, loop-names-blind, case-patterns-blind, type-check-blind}
+use Rattle.blind.proofs.Parts.{fail-with-blind, couple-blind, row-record-blind, list-record-blind, fn-record-blind, handler-record-blind, handlers-flagged-blind, if-record-blind, names-blind, case-patterns-blind, type-check-blind}
 use Rattle.blind.proofs.Handed.{Handed, expr-blind}
 use Rattle.blind.proofs.Exprs.{block-blind, and-block-blind, function-blind, items-of-blind, brace-blind, primary-of-blind}
 
 module _ {r : Inner} (x : Handed r) where
   -- atoms
-  group-blind : (from which : ℕ) → Blind (group r from which)
-  unfolding group
-  group-blind from which =
-      thens (bump-blind (r .sheet)) (ifs (eqb which 3)
-      (binds (items-of-blind x 1 noKids) (λ i. list-record-blind node.List from i))
-      (binds (expr-blind x true) (λ link. ifs (eqb which 14) (close-blind node.Return from 0 0 0 link) (thens (expect-blind (r .sheet) kind.CloseParen) (close-blind node.Paren from 0 0 0 link)))))
+  paren-blind : (from : ℕ) → Blind (parenExpr r from)
+  unfolding parenExpr
+  paren-blind from = thens (bump-blind (r .sheet)) (binds (expr-blind x true) (λ link. thens (expect-blind (r .sheet) kind.CloseParen) (close-blind node.Paren from 0 0 0 link)))
 
-  do-function-blind : (from : ℕ) → Blind (doFunction r from)
-  unfolding doFunction
-  do-function-blind from = binds (block-blind x 0) (λ body. close-blind node.Do from 0 0 0 body)
+  list-blind : (from : ℕ) → Blind (listExpr r from)
+  unfolding listExpr
+  list-blind from = thens (bump-blind (r .sheet)) (binds (items-of-blind x Elements noKids) (λ i. list-record-blind node.List from i))
 
-  anon-function-blind : (from which : ℕ) → Blind (anonFunction r from which)
-  unfolding anonFunction
-  anon-function-blind from which = ifs (eqb which 5) (function-blind x from true) (thens (bump-blind (r .sheet)) (ifs (eqb which 4) (function-blind x from false) (do-function-blind from)))
+  return-blind : (from : ℕ) → Blind (returnExpr r from)
+  unfolding returnExpr
+  return-blind from = thens (bump-blind (r .sheet)) (binds (expr-blind x true) (λ link. close-blind node.Return from 0 0 0 link))
 
-  anon-blind : (from which : ℕ) → Blind (anon r from which)
-  unfolding anon
-  anon-blind from which = binds (anon-function-blind from which) (λ f. fn-record-blind from ranged.Nowhere 0 f)
+  fn-blind : (from : ℕ) → Blind (fnExpr r from)
+  unfolding fnExpr
+  fn-blind from = thens (bump-blind (r .sheet)) (binds (function-blind x from false) (λ f. fn-record-blind from ranged.Nowhere 0 f))
+
+  closure-blind : (from : ℕ) → Blind (closureExpr r from)
+  unfolding closureExpr
+  closure-blind from = binds (function-blind x from true) (λ f. fn-record-blind from ranged.Nowhere 0 f)
+
+  do-blind : (from : ℕ) → Blind (doExpr r from)
+  unfolding doExpr
+  do-blind from = thens (bump-blind (r .sheet)) (binds (block-blind x 0) (λ body. binds (close-blind node.Do from 0 0 0 body) (λ f. fn-record-blind from ranged.Nowhere 0 f)))
 
   alternate-blind : Blind (alternate r)
   unfolding alternate
   alternate-blind = binds (check-blind (r .sheet) kind.If) (λ again. ifs again (expr-blind x true) (block-blind x node.ExprBlock))
 
-  if-else-blind : (from : ℕ) → Blind (ifElse r from)
-  unfolding ifElse
-  if-else-blind from =
+  if-blind : (from : ℕ) → Blind (ifExpr r from)
+  unfolding ifExpr
+  if-blind from =
       thens (bump-blind (r .sheet)) (binds (and-block-blind x noKids) (λ kids. binds (eat-blind (r .sheet) kind.Else) (λ other. ifs other (binds alternate-blind (λ a. if-record-blind from kids a)) (if-record-blind from kids 0))))
 
   match-case-blind : Blind (matchCase r)
@@ -69,35 +75,59 @@ module _ {r : Inner} (x : Handed r) where
   case-turn-blind kids =
       binds (eat-blind (r .sheet) kind.CloseBrace) (λ closed. ifs closed gives (thens (eat-eol-blind (r .sheet)) (binds match-case-blind (λ c. thens (eat-eol-blind (r .sheet)) (binds (add-blind kids c) (λ longer. gives))))))
 
-  cases-blind : (from : ℕ) → Blind (cases r from)
-  unfolding cases
-  cases-blind from =
+  match-blind : (from : ℕ) → Blind (matchExpr r from)
+  unfolding matchExpr
+  match-blind from =
       thens (bump-blind (r .sheet)) (binds (expr-blind x false) (λ link. thens (expect-blind (r .sheet) kind.OpenBrace) (binds (loops case-turn-blind (r .sheet) (rowOf link)) (λ row. close-blind node.Match from 0 0 _ (row .first)))))
 
-  loops-blind : (from which : ℕ) → Blind (atoms.loops r from which)
-  unfolding atoms.loops
-  loops-blind from which =
-      thens (bump-blind (r .sheet)) (ifs (eqb which 9)
-      (binds (block-blind x 0) (λ body. close-blind node.Loop from 0 0 0 body))
-      (binds (loop-names-blind (r .sheet) which) (λ names. binds (and-block-blind x names) (λ kids. round-record-blind from which (names .count) kids))))
+  loop-blind : (from : ℕ) → Blind (loopExpr r from)
+  unfolding loopExpr
+  loop-blind from = thens (bump-blind (r .sheet)) (binds (block-blind x 0) (λ body. close-blind node.Loop from 0 0 0 body))
 
-  form-blind : (from which : ℕ) → Blind (form r from which)
-  unfolding form
-  form-blind from which =
-      ifs (eqb which 0) (group-blind from which)
-      (ifs (eqb which 1) (ident-blind (r .sheet))
-      (ifs (eqb which 2) (brace-blind x from)
-      (ifs (eqb which 3) (group-blind from which)
-      (ifs (ltb which 7) (anon-blind from which)
-      (ifs (eqb which 7) (if-else-blind from)
-      (ifs (eqb which 8) (cases-blind from)
-      (ifs (ltb which 12) (loops-blind from which)
-      (ifs (ltb which 14) (leaf-blind (r .sheet) from which)
-      (ifs (eqb which 14) (group-blind from which) (lit-blind (r .sheet)))))))))))
+  while-blind : (from : ℕ) → Blind (whileExpr r from)
+  unfolding whileExpr
+  while-blind from = thens (bump-blind (r .sheet)) (binds (and-block-blind x noKids) (λ kids. close-blind node.While from 0 0 0 (kids .first)))
+
+  for-blind : (from : ℕ) → Blind (forExpr r from)
+  unfolding forExpr
+  for-blind from =
+      thens (bump-blind (r .sheet)) (binds (names-blind (r .sheet)) (λ row. thens (expect-blind (r .sheet) kind.In) (binds (and-block-blind x row) (λ kids. close-blind node.For from 0 0 _ (kids .first)))))
+
+  break-blind : (from : ℕ) → Blind (breakExpr r from)
+  unfolding breakExpr
+  break-blind from = thens (bump-blind (r .sheet)) (close-blind node.Break from 0 0 0 0)
+
+  continue-blind : (from : ℕ) → Blind (continueExpr r from)
+  unfolding continueExpr
+  continue-blind from = thens (bump-blind (r .sheet)) (close-blind node.Continue from 0 0 0 0)
+
+  -- an atom as an expression
+  as-name : {read : Rule ℕ} → Blind read → Blind (name r read)
+  as-name h = binds h (λ link. gives)
+
+  as-other : {read : Rule ℕ} → Blind read → Blind (other r read)
+  as-other h = binds h (λ link. gives)
 
   atom-blind : Blind (atom r)
   unfolding atom
-  atom-blind = binds (start-blind (r .sheet)) (λ from. binds (pick-blind (r .sheet) atomChain 0) (λ which. binds (form-blind from which) (λ link. gives)))
+  atom-blind =
+      binds (start-blind (r .sheet)) (λ from. chooses (r .sheet) (atomCases r from)
+      (as-other (paren-blind from)
+      & as-name (ident-blind (r .sheet))
+      & as-other (brace-blind x from)
+      & as-other (list-blind from)
+      & as-other (fn-blind from)
+      & as-other (closure-blind from)
+      & as-other (do-blind from)
+      & as-other (if-blind from)
+      & as-other (match-blind from)
+      & as-other (loop-blind from)
+      & as-other (while-blind from)
+      & as-other (for-blind from)
+      & as-other (break-blind from)
+      & as-other (continue-blind from)
+      & as-other (return-blind from)
+      & all) (as-other (lit-blind (r .sheet))))
 
   primary-blind : (lambda : Bool) → Blind (primary r lambda)
   unfolding primary
@@ -107,7 +137,7 @@ module _ {r : Inner} (x : Handed r) where
   handler-blind : Blind (handler r)
   unfolding handler
   handler-blind =
-      binds (start-blind (r .sheet)) (λ from. thens (expect-blind (r .sheet) kind.With) (binds (ident-blind (r .sheet)) (λ name. binds (params-blind (r .sheet) (r .atom) (x .atom) (rowOf name)) (λ i. binds (block-blind x 0) (λ body. handler-record-blind from i body)))))
+      binds (start-blind (r .sheet)) (λ from. thens (expect-blind (r .sheet) kind.With) (binds (ident-blind (r .sheet)) (λ name. binds (params-blind (r .sheet) (r .typeAtom) (x .typeAtom) (rowOf name)) (λ i. binds (block-blind x 0) (λ body. handler-record-blind from i body)))))
 
   handler-turn-blind : (kids : Kids) → Blind (handlerTurn r kids)
   unfolding handlerTurn
@@ -124,16 +154,16 @@ module _ {r : Inner} (x : Handed r) where
   unfolding tried
   tried-blind lambda = record { ends = λ m s w v h t. thens (bump-blind (r .sheet)) (binds (primary-blind lambda) (λ a. tried-by-blind (spanOf (rangeAt (r .sheet .tokens) (s .at))) a)) .ends m s w v h t }
 
-  negated-blind : (from : ℕ) (lambda : Bool) → Blind (negated r from lambda)
-  unfolding negated
-  negated-blind from lambda = record {
+  unary-op-blind : (from : ℕ) (lambda : Bool) → Blind (unaryOp r from lambda)
+  unfolding unaryOp
+  unary-op-blind from lambda = record {
     ends = λ m s w v h t. thens (bump-blind (r .sheet)) (binds (primary-blind lambda) (λ a. binds (close-blind node.Unary from (kindAt (r .sheet .tokens) (s .at)) 0 0 (linkOf a)) (λ link. gives))) .ends m s w v h t;
   }
 
   unary-blind : (lambda : Bool) → Blind (unary r lambda)
   unfolding unary
   unary-blind lambda =
-      binds (start-blind (r .sheet)) (λ from. binds (pick-blind (r .sheet) unaryChain 0) (λ which. ifs (eqb which 2) (tried-blind lambda) (ifs (ltb 2 which) (primary-blind lambda) (negated-blind from lambda))))
+      binds (start-blind (r .sheet)) (λ from. chooses (r .sheet) (unaryCases r from lambda) (unary-op-blind from lambda & unary-op-blind from lambda & tried-blind lambda & all) (primary-blind lambda))
 
   operated-blind : (from : ℕ) (lambda : Bool) (a : Expr) (k level : ℕ) → Blind (operated r from lambda a k level)
   unfolding operated

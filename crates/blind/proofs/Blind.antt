@@ -5,7 +5,7 @@
 use mathlib.Core.Path.{_≡_, sym}
 use mathlib.Core.List.{List}
 use mathlib.Core.Bool.{Bool, true, false, false≢true}
-use Prim.Native.Nat.{ℕ, zero, suc, _*_, _<_, _≤_}
+use Prim.Native.Nat.{ℕ, zero, suc, _*_, _≤_}
 use native.Mathlib.Nat.{le-refl, le-trans}
 use native.Mathlib.Omega.{arith}
 use Rattle.cursor.specs.declared.State.{State}
@@ -14,7 +14,7 @@ use Rattle.cursor.specs.Layout.{nodeWords, errorWords}
 use Rattle.cursor.specs.Sheet.{Sheet}
 use Rattle.cursor.specs.Rule.{World, fault, refusal, refused, Out, done, failed, bind, orElse, Rule, _>>=_, _>>_, give, refuse, ifSo, Next, more, stop, Turn, next, turns, iterate}
 use Rattle.cursor.specs.Tokens.{rewind}
-use Rattle.cursor.specs.Attempts.{attempt}
+use Rattle.cursor.specs.Attempts.{tryParse}
 use Rattle.cursor.proofs.Keeps.{Mark, mark, Stands, mark-stands, Same}
 
 -- buffers of the same lengths that agree below the counts of a state
@@ -101,8 +101,8 @@ module _ {A B : Type 0} where
   thens x y = binds x (λ _. y)
 
   -- an attempt: the other rule begins where the attempt did
-  pub attempts : {r : Rule A} {k : A → Rule B} {back : Rule B} → Blind r → ((a : A) → Blind (k a)) → Blind back → Blind (attempt r k back)
-  unfolding attempt rewind
+  pub attempts : {r : Rule A} {k : A → Rule B} {back : Rule B} → Blind r → ((a : A) → Blind (k a)) → Blind back → Blind (tryParse r k back)
+  unfolding tryParse rewind
   attempts x y z = record {
     ends = λ m s w v h t. lowered h (either (x .ends (mark s) s w v (mark-stands s) t)
         (λ s1 w1 v1 a g u. y a .ends (mark s) s1 w1 v1 g u)

@@ -2,7 +2,7 @@
 use mathlib.Core.Path.{_≡_, refl, sym, ap, _∙_, subst}
 use mathlib.Core.List.{List, [], _∷_}
 use mathlib.Core.Bool.{Bool, true, false, cond}
-use Prim.Native.Nat.{ℕ, zero, suc, _+_, _*_, _/_, _<_, _≤_, min}
+use Prim.Native.Nat.{ℕ, zero, suc, _+_, _*_, _/_, _≤_, min}
 use native.Mathlib.Nat.{le-refl}
 use native.Mathlib.Omega.{arith}
 use lib.Dec.{ltb, leb, eqb}
@@ -16,9 +16,10 @@ use Rattle.cursor.specs.Sheet.{Sheet, count, kindAt}
 use Rattle.cursor.specs.Buffer.{put, copy}
 use Rattle.cursor.specs.Rule.{World, Out, done, Rule}
 use Rattle.cursor.specs.Tokens.{eatTrivia, bump, eolTurn, eatEol}
-use Rattle.cursor.specs.Checks.{liveRoom, want, check, eat, expect, eatRange, unexpected, pickFrom}
+use Rattle.cursor.specs.Checks.{liveRoom, want, check, eat, expect, eatRange, unexpected, Case, _⇒_, choose}
 use Rattle.cursor.specs.Records.{word32, withNodes, append, write, add, reflag, listLength, writeError, log}
 use Rattle.cursor.specs.Attempts.{unbuilt, recover}
+use Rattle.cursor.proofs.Chosen.{Every, all, _&_}
 use Rattle.cursor.proofs.Keeps.{Mark, mark, mark-stands, Stands, Same}
 use Rattle.blind.proofs.Blind.{Twin, twin-below, no-node, no-error, all-spent, too-many-kinds, Twins, well, ill, cut, on, Blind, branch, either, lowered, gives, ifs, binds, thens, loops}
 
@@ -128,10 +129,11 @@ module _ (e : Sheet) where
   unfolding eatRange
   eat-range-blind k = record { ends = λ m s w v h t. binds (check-blind k) (λ here. ifs here (thens bump-blind gives) gives) .ends m s w v h t }
 
-  pub pick-blind : (ks : List ℕ) (i : ℕ) → Blind (pickFrom e ks i)
-  unfolding pickFrom
-  pick-blind [] i = gives
-  pick-blind (k ∷ ks) i = binds (check-blind k) (λ here. ifs here gives (pick-blind ks (i + 1)))
+  -- a chain of checks is blind where all its ways are
+  pub chooses : {A : Type 0} (cases : List (Case A)) {other : Rule A} → Every Blind cases → Blind other → Blind (choose e cases other)
+  unfolding choose
+  chooses [] all x = x
+  chooses ((k ⇒ r) ∷ cases) (h & hs) x = binds (check-blind k) (λ here. ifs here h (chooses cases hs x))
 
   pub eat-eol-blind : Blind (eatEol e)
   unfolding eatEol

@@ -5,9 +5,9 @@ use Rattle.rules.specs.Inner.{Inner, expr}
 use Rattle.blind.proofs.Blind.{Blind, gives, binds}
 
 pub record Handed (r : Inner) : Type 0 where
-  pub body : (end : ℕ) → Blind (r .body end)
+  pub exprs : (end : ℕ) → Blind (r .exprs end)
   pub prec : (min : ℕ) (lambda : Bool) → Blind (r .prec min lambda)
-  pub atom : Blind (r .atom)
+  pub typeAtom : Blind (r .typeAtom)
   pub pattern : Blind (r .pattern)
 
 pub expr-blind : {r : Inner} → Handed r → (lambda : Bool) → Blind (expr r lambda)

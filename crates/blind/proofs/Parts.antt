@@ -1,7 +1,6 @@
 -- The records and steps of parts are blind to what the lent buffers held.
 use mathlib.Core.Bool.{Bool}
 use Prim.Native.Nat.{ℕ, zero, suc}
-use lib.Dec.{ltb, eqb}
 use Rattle.kinds.specs.Number as kind
 use Rattle.cursor.specs.declared.Kids.{Kids}
 use Rattle.cursor.specs.declared.Fault.{Fault}
@@ -20,8 +19,8 @@ use Rattle.parts.specs.declared.steps.Checked.{Checked}
 use Rattle.parts.specs.declared.steps.Checked.the-variants as checked
 use Rattle.parts.specs.Values.{linkOf}
 use Rattle.parts.specs.When.{failWith}
-use Rattle.parts.specs.Records.{couple, rowRecord, listRecord, wrapped, blockRecord, fnRecord, functionKind, functionRecord, handlerRecord, handlersFlagged, ifRecord, roundRecord, callRecord, memberRecord}
-use Rattle.parts.specs.Steps.{checkedType, anyParams, braced, noMember, metaEnd, litKey, parenKeyAt, parenKey, leaf, nameTurn, names, loopNames, patternTurn, casePatterns, typeChecked, typeCheckAt, typeCheck}
+use Rattle.parts.specs.Records.{couple, rowRecord, listRecord, wrapped, blockRecord, fnRecord, functionKind, functionRecord, handlerRecord, handlersFlagged, ifRecord, callRecord, memberRecord}
+use Rattle.parts.specs.Steps.{checkedType, anyParams, braced, noMember, litKey, parenKeyAt, parenKey, nameTurn, names, patternTurn, casePatterns, typeChecked, typeCheckAt, typeCheck}
 use Rattle.blind.proofs.Blind.{ill, Blind, gives, ifs, binds, thens, loops}
 use Rattle.blind.proofs.Cursor.{bump-blind, check-blind, eat-blind, expect-blind, unexpected-blind, append-blind, add-blind, reflag-blind}
 use Rattle.blind.proofs.Items.{close-blind, add-some-blind, lit-blind, ident-blind}
@@ -72,17 +71,13 @@ pub if-record-blind : (from : ℕ) (kids : Kids) (link : ℕ) → Blind (ifRecor
 unfolding ifRecord
 if-record-blind from kids link = binds (add-some-blind kids link) (λ all. close-blind node.If from 0 0 _ (all .first))
 
-pub round-record-blind : (from which names : ℕ) (kids : Kids) → Blind (roundRecord from which names kids)
-unfolding roundRecord
-round-record-blind from which names kids = ifs (eqb which 10) (close-blind node.While from 0 0 0 (kids .first)) (close-blind node.For from 0 0 _ (kids .first))
-
 pub call-record-blind : (from : ℕ) (kids : Kids) (lambda : ℕ) → Blind (callRecord from kids lambda)
 unfolding callRecord
 call-record-blind from kids lambda = binds (add-some-blind kids lambda) (λ all. binds (close-blind node.Call from 0 0 _ (all .first)) (λ link. gives))
 
-pub member-record-blind : (from : ℕ) (safe : Ranged) (which : ℕ) (x : Expr) (link : ℕ) → Blind (memberRecord from safe which x link)
+pub member-record-blind : (from : ℕ) (safe : Ranged) (member : ℕ) (x : Expr) (link : ℕ) → Blind (memberRecord from safe member x link)
 unfolding memberRecord
-member-record-blind from safe which x link = binds (add-blind noKids (linkOf x)) (λ one. binds (add-some-blind one link) (λ all. binds (close-blind node.Member from _ _ _ (all .first)) (λ m. gives)))
+member-record-blind from safe member x link = binds (add-blind noKids (linkOf x)) (λ one. binds (add-some-blind one link) (λ all. binds (close-blind node.Member from _ _ _ (all .first)) (λ m. gives)))
 
 -- steps
 module _ (e : Sheet) where
@@ -98,10 +93,6 @@ module _ (e : Sheet) where
   unfolding noMember
   no-member-blind safe x = ifs (isEnded safe) (unexpected-blind e) gives
 
-  pub meta-end-blind : (which : ℕ) → Blind (metaEnd e which)
-  unfolding metaEnd
-  meta-end-blind which = ifs (ltb 0 which) gives (thens (expect-blind e kind.CloseBracket) gives)
-
   pub lit-key-blind : Blind (litKey e)
   unfolding litKey
   lit-key-blind = binds (lit-blind e) (λ link. thens (expect-blind e kind.Colon) gives)
@@ -114,21 +105,13 @@ module _ (e : Sheet) where
   unfolding parenKey
   paren-key-blind from link = thens (expect-blind e kind.CloseParen) (paren-key-at-blind from link)
 
-  pub leaf-blind : (from which : ℕ) → Blind (leaf e from which)
-  unfolding leaf
-  leaf-blind from which = thens (bump-blind e) (ifs (eqb which 12) (close-blind node.Break from 0 0 0 0) (close-blind node.Continue from 0 0 0 0))
-
   name-turn-blind : (kids : Kids) → Blind (nameTurn e kids)
   unfolding nameTurn
   name-turn-blind kids = binds (ident-blind e) (λ link. binds (add-blind kids link) (λ longer. binds (eat-blind e kind.Comma) (λ comma. ifs comma gives gives)))
 
-  names-blind : Blind (names e)
+  pub names-blind : Blind (names e)
   unfolding names
   names-blind = loops name-turn-blind e noKids
-
-  pub loop-names-blind : (which : ℕ) → Blind (loopNames e which)
-  unfolding loopNames
-  loop-names-blind which = ifs (eqb which 10) gives (binds names-blind (λ kids. thens (expect-blind e kind.In) gives))
 
   module _ (pattern : Rule ℕ) (h : Blind pattern) where
     pattern-turn-blind : (kids : Kids) → Blind (patternTurn e pattern kids)

@@ -15,8 +15,8 @@ use Rattle.blind.proofs.Stmts.{body-blind}
 -- by the levels left
 pub levels-handed : (e : Sheet) (d : ℕ) → Handed (levels e d)
 unfolding knot
-levels-handed e zero = record { body = λ end. refuses too-deep; prec = λ min lambda. refuses too-deep; atom = atoms-blind e zero; pattern = patterns-blind e zero }
-levels-handed e (suc d) = record { body = body-blind (levels-handed e d); prec = precedence-blind (levels-handed e d); atom = atoms-blind e (suc d); pattern = patterns-blind e (suc d) }
+levels-handed e zero = record { exprs = λ end. refuses too-deep; prec = λ min lambda. refuses too-deep; typeAtom = atoms-blind e zero; pattern = patterns-blind e zero }
+levels-handed e (suc d) = record { exprs = body-blind (levels-handed e d); prec = precedence-blind (levels-handed e d); typeAtom = atoms-blind e (suc d); pattern = patterns-blind e (suc d) }
 
 program-record-blind : (from : ℕ) (row : Kids) → Blind (programRecord from row)
 unfolding programRecord
@@ -24,4 +24,4 @@ program-record-blind from row = record { ends = λ m s w v h t. append-blind _ (
 
 pub program-blind : (e : Sheet) (d : ℕ) → Blind (program (levels e d))
 unfolding program
-program-blind e d = binds (start-blind e) (λ from. binds (levels-handed e d .body kind.Eof) (λ row. program-record-blind from row))
+program-blind e d = binds (start-blind e) (λ from. binds (levels-handed e d .exprs kind.Eof) (λ row. program-record-blind from row))

@@ -1,7 +1,5 @@
 -- The lists, imports, effects and recovery of parts are blind to what the lent buffers held.
-use mathlib.Core.List.{[], _∷_}
 use Prim.Native.Nat.{ℕ}
-use lib.Dec.{ltb, eqb}
 use Rattle.kinds.specs.Number as kind
 use Rattle.cursor.specs.declared.Kids.{Kids}
 use Rattle.cursor.specs.declared.Ranged.{Ranged}
@@ -10,17 +8,18 @@ use Rattle.cursor.specs.Sheet.{Sheet}
 use Rattle.cursor.specs.Rule.{Rule}
 use Rattle.cursor.specs.Checks.{unexpectedAt}
 use Rattle.cursor.specs.Records.{noKids}
+use Rattle.cursor.proofs.Chosen.{all, _&_}
 use Rattle.types.specs.declared.items.Items.{Items}
 use Rattle.types.specs.Items.{so}
 use Rattle.parts.specs.declared.imports.Imported.{Imported}
 use Rattle.parts.specs.Answers.{onPath}
 use Rattle.parts.specs.Values.{uncounted}
 use Rattle.parts.specs.Until.{untilTurn, itemsUntil}
-use Rattle.parts.specs.Imports.{endChain, tailChain, importItem, importItems, importEnd, importTail, pathTurn, importStmt}
+use Rattle.parts.specs.Imports.{importItem, importItems, importSimple, importAlias, importNested, importGlob, endCases, importEnd, tailCases, importTail, pathTurn, importStmt}
 use Rattle.parts.specs.Effects.{effectRecord, effectStmt}
-use Rattle.parts.specs.Recovery.{skipTurn, skip, skipped, logHere, lineEnd, afterStmt}
+use Rattle.parts.specs.Recovery.{skipCases, skipTurn, skip, skipped, logHere, lineEnd, afterStmt}
 use Rattle.blind.proofs.Blind.{Blind, gives, ifs, binds, thens, loops}
-use Rattle.blind.proofs.Cursor.{bump-blind, check-blind, eat-blind, expect-blind, unexpected-blind, pick-blind, eat-eol-blind, add-blind, log-blind, recovers}
+use Rattle.blind.proofs.Cursor.{bump-blind, check-blind, eat-blind, expect-blind, unexpected-blind, chooses, eat-eol-blind, add-blind, log-blind, recovers}
 use Rattle.blind.proofs.Items.{start-blind, close-blind, add-some-blind, one-item-blind, ident-blind}
 use Rattle.blind.proofs.Types.{params-blind, returns-blind}
 
@@ -47,13 +46,29 @@ module _ (e : Sheet) where
   unfolding importItems
   import-items-blind kids = items-until-blind e (importItem e) import-item-blind kind.CloseBrace kids
 
+  import-simple-blind : (kids : Kids) → Blind (importSimple e kids)
+  unfolding importSimple
+  import-simple-blind kids = gives
+
+  import-alias-blind : (kids : Kids) → Blind (importAlias e kids)
+  unfolding importAlias
+  import-alias-blind kids = thens (bump-blind e) (binds (ident-blind e) (λ alias. binds (add-blind kids alias) (λ longer. gives)))
+
+  import-nested-blind : (kids : Kids) → Blind (importNested e kids)
+  unfolding importNested
+  import-nested-blind kids = thens (bump-blind e) (binds (import-items-blind (uncounted kids)) (λ i. gives))
+
+  import-glob-blind : (kids : Kids) → Blind (importGlob e kids)
+  unfolding importGlob
+  import-glob-blind kids = thens (bump-blind e) gives
+
   import-end-blind : (kids : Kids) → Blind (importEnd e kids)
   unfolding importEnd
-  import-end-blind kids = binds (pick-blind e endChain 0) (λ which. ifs (eqb which 0) gives (ifs (ltb 1 which) (unexpected-blind e) (thens (bump-blind e) (binds (ident-blind e) (λ alias. binds (add-blind kids alias) (λ longer. gives))))))
+  import-end-blind kids = chooses e (endCases e kids) (import-simple-blind kids & import-alias-blind kids & all) (unexpected-blind e)
 
   import-tail-blind : (kids : Kids) → Blind (importTail e kids)
   unfolding importTail
-  import-tail-blind kids = binds (pick-blind e tailChain 0) (λ which. ifs (ltb 1 which) (unexpected-blind e) (thens (bump-blind e) (ifs (eqb which 1) gives (binds (import-items-blind (uncounted kids)) (λ i. gives)))))
+  import-tail-blind kids = chooses e (tailCases e kids) (import-nested-blind kids & import-glob-blind kids & all) (unexpected-blind e)
 
   path-turn-blind : (i : Imported) → Blind (pathTurn e i)
   unfolding pathTurn
@@ -81,7 +96,7 @@ effect-stmt-blind e atom h from glo =
 module _ (e : Sheet) where
   skip-turn-blind : (end : ℕ) (a : Unit) → Blind (skipTurn e end a)
   unfolding skipTurn
-  skip-turn-blind end a = binds (pick-blind e (kind.Eol ∷ kind.Eof ∷ end ∷ []) 0) (λ which. ifs (ltb which 3) gives (thens (bump-blind e) gives))
+  skip-turn-blind end a = chooses e (skipCases e end) (gives & gives & gives & all) (thens (bump-blind e) gives)
 
   skip-blind : (end : ℕ) → Blind (skip e end)
   unfolding skip

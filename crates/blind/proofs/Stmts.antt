@@ -1,7 +1,6 @@
 -- The rules on statements are blind to what the lent buffers held, where the rules handed over are.
 use mathlib.Core.Bool.{true, false}
 use Prim.Native.Nat.{ℕ}
-use lib.ListN.{getD}
 use lib.Dec.{ltb, eqb}
 use Rattle.kinds.specs.Number as kind
 use Rattle.cursor.specs.declared.Kids.{Kids}
@@ -11,6 +10,7 @@ use Rattle.cursor.specs.Node as node
 use Rattle.cursor.specs.Sheet.{rangeAt}
 use Rattle.cursor.specs.Rule.{Rule, _>>=_, give, Next, more}
 use Rattle.cursor.specs.Records.{add, noKids}
+use Rattle.cursor.proofs.Chosen.{all, _&_}
 use Rattle.types.specs.Types.{named}
 use Rattle.parts.specs.declared.values.Called.{Called}
 use Rattle.parts.specs.declared.values.Expr.{Expr}
@@ -21,10 +21,10 @@ use Rattle.parts.specs.Values.{toAssignLeft, rowWith, uncounted}
 use Rattle.parts.specs.When.{failWith}
 use Rattle.parts.specs.Steps.{alone, operatorOf}
 use Rattle.rules.specs.Inner.{Inner}
-use Rattle.rules.specs.Statements.{stmtChain, gloChain, signChain, right, setTo, set, typed, leftOf, leftTurn, lefts, rightTurn, rights, multiTo, multi, assign, gloBy, glo, plain, functionStmt, stmt}
-use Rattle.rules.specs.Body.{stmtOr, bodyTurn, body}
+use Rattle.rules.specs.Statements.{right, setTo, set, typedAssign, leftOf, leftTurn, lefts, rightTurn, rights, multiTo, multi, signCases, assign, gloAssign, gloCases, glo, stmtCases, plain, functionStmt, stmt}
+use Rattle.rules.specs.Exprs.{stmtOr, exprsTurn, exprs as exprs-rule}
 use Rattle.blind.proofs.Blind.{Blind, gives, ifs, binds, thens, attempts, loops}
-use Rattle.blind.proofs.Cursor.{bump-blind, check-blind, eat-blind, unexpected-blind, expect-blind, eat-range-blind, pick-blind, eat-eol-blind, add-blind, recovers}
+use Rattle.blind.proofs.Cursor.{bump-blind, check-blind, eat-blind, unexpected-blind, expect-blind, eat-range-blind, chooses, eat-eol-blind, add-blind, recovers}
 use Rattle.blind.proofs.Items.{start-blind, close-blind, pair-blind}
 use Rattle.blind.proofs.Types.{typed-ident-blind, type-blind, named-blind}
 use Rattle.blind.proofs.Parts.{fail-with-blind, couple-blind, row-record-blind}
@@ -56,10 +56,10 @@ module _ {r : Inner} (x : Handed r) where
   unfolding set
   set-blind from sign a = set-to-blind from sign (toAssignLeft a)
 
-  typed-blind : (from : ℕ) (a : Expr) → Blind (typed r from a)
-  unfolding typed
+  typed-blind : (from : ℕ) (a : Expr) → Blind (typedAssign r from a)
+  unfolding typedAssign
   typed-blind from (exprs.Name name) =
-      thens (bump-blind (r .sheet)) (binds (type-blind (r .sheet) (r .atom) (x .atom)) (λ t. binds (pair-blind node.TypedIdent from name t) (λ link. thens (expect-blind (r .sheet) kind.Assign) (right-blind from node.Assign 0 link))))
+      thens (bump-blind (r .sheet)) (binds (type-blind (r .sheet) (r .typeAtom) (x .typeAtom)) (λ t. binds (pair-blind node.TypedIdent from name t) (λ link. thens (expect-blind (r .sheet) kind.Assign) (right-blind from node.Assign 0 link))))
   typed-blind from (exprs.NameMember link) = unexpected-blind (r .sheet)
   typed-blind from (exprs.Call link called) = unexpected-blind (r .sheet)
   typed-blind from (exprs.Other link) = unexpected-blind (r .sheet)
@@ -105,24 +105,31 @@ module _ {r : Inner} (x : Handed r) where
 
   assign-blind : (from : ℕ) → Blind (assign r from)
   unfolding assign
-  assign-blind from = binds (x .prec 1 true) (λ a. binds (pick-blind (r .sheet) signChain 0) (λ which. ifs (eqb which 0) (multi-blind from a) (ifs (eqb which 1) (typed-blind from a) (ifs (ltb 7 which) gives (set-blind from (getD signChain which 0) a)))))
+  assign-blind from =
+      binds (x .prec 1 true) (λ a. chooses (r .sheet) (signCases r from a)
+      (multi-blind from a & typed-blind from a & set-blind from _ a & set-blind from _ a & set-blind from _ a & set-blind from _ a & set-blind from _ a & set-blind from _ a & all)
+      gives)
 
-  glo-by-blind : (from : ℕ) (here : Ranged) (which : ℕ) → Blind (gloBy r from here which)
-  unfolding gloBy
-  glo-by-blind from here which =
-      ifs (eqb which 0) (fn-stmt-blind x from here) (ifs (eqb which 1) (effect-stmt-blind (r .sheet) (r .atom) (x .atom) from here)
-      (binds (typed-ident-blind (r .sheet) (named (r .sheet) (r .atom) false) (named-blind (r .sheet) (r .atom) (x .atom) false)) (λ name. thens (expect-blind (r .sheet) kind.Assign) (right-blind from node.GloAssign 0 name))))
+  glo-assign-blind : (from : ℕ) → Blind (gloAssign r from)
+  unfolding gloAssign
+  glo-assign-blind from =
+      binds (typed-ident-blind (r .sheet) (named (r .sheet) (r .typeAtom) false) (named-blind (r .sheet) (r .typeAtom) (x .typeAtom) false)) (λ left. thens (expect-blind (r .sheet) kind.Assign) (right-blind from node.GloAssign 0 left))
 
   -- where `glo` stands hangs on the place alone
   glo-blind : (from : ℕ) → Blind (glo r from)
   unfolding glo
-  glo-blind from = record { ends = λ m s w v h t. thens (bump-blind (r .sheet)) (binds (pick-blind (r .sheet) gloChain 0) (λ which. glo-by-blind from (rangeAt (r .sheet .tokens) (s .at)) which)) .ends m s w v h t }
+  glo-blind from = record {
+    ends = λ m s w v h t. thens (bump-blind (r .sheet)) (chooses (r .sheet) (gloCases r from (rangeAt (r .sheet .tokens) (s .at)))
+        (fn-stmt-blind x from _ & effect-stmt-blind (r .sheet) (r .typeAtom) (x .typeAtom) from _ & all)
+        (glo-assign-blind from)) .ends m s w v h t;
+  }
 
   plain-blind : Blind (plain r)
   unfolding plain
   plain-blind =
-      binds (start-blind (r .sheet)) (λ from. binds (pick-blind (r .sheet) stmtChain 0) (λ which. ifs (eqb which 0) (import-stmt-blind (r .sheet) from)
-      (ifs (eqb which 1) (effect-stmt-blind (r .sheet) (r .atom) (x .atom) from ranged.Nowhere) (ifs (eqb which 2) (glo-blind from) (assign-blind from)))))
+      binds (start-blind (r .sheet)) (λ from. chooses (r .sheet) (stmtCases r from)
+      (import-stmt-blind (r .sheet) from & effect-stmt-blind (r .sheet) (r .typeAtom) (x .typeAtom) from ranged.Nowhere & glo-blind from & all)
+      (assign-blind from))
 
   function-stmt-blind : Blind (functionStmt r)
   unfolding functionStmt
@@ -137,10 +144,10 @@ module _ {r : Inner} (x : Handed r) where
   unfolding stmtOr
   stmt-or-blind end = recovers stmt-blind (λ link. gives) (skipped-blind (r .sheet) end)
 
-  body-turn-blind : (end : ℕ) (kids : Kids) → Blind (bodyTurn r end kids)
-  unfolding bodyTurn
+  body-turn-blind : (end : ℕ) (kids : Kids) → Blind (exprsTurn r end kids)
+  unfolding exprsTurn
   body-turn-blind end kids = binds (eat-blind (r .sheet) end) (λ closed. ifs closed gives (binds (stmt-or-blind end) (λ link. after-stmt-blind (r .sheet) end kids link)))
 
-  pub body-blind : (end : ℕ) → Blind (body r end)
-  unfolding body
+  pub body-blind : (end : ℕ) → Blind (exprs-rule r end)
+  unfolding exprs-rule
   body-blind end = thens (eat-eol-blind (r .sheet)) (loops (body-turn-blind end) (r .sheet) noKids)

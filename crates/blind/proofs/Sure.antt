@@ -14,15 +14,16 @@ use Rattle.cursor.specs.Layout.{nodeWords, errorWords, nodeLimit, errorLimit, e
 use Rattle.cursor.specs.Sheet.{Sheet, count, kindAt}
 use Rattle.cursor.specs.Rule.{World, fault, refused, Out, done, failed, Rule, _>>=_, _>>_, give, refuse, ifSo, Next, more, stop, Turn, next, turns, iterate}
 use Rattle.cursor.specs.Tokens.{eatTrivia, bump, eolTurn, eatEol}
-use Rattle.cursor.specs.Checks.{liveRoom, want, check, eat, expect, pickFrom, unexpectedAt}
+use Rattle.cursor.specs.Checks.{liveRoom, want, check, eat, expect, Case, _⇒_, choose, unexpectedAt}
 use Rattle.cursor.specs.Records.{append, add, listLength, log, noKids}
 use Rattle.cursor.specs.Attempts.{unbuilt, recover}
+use Rattle.cursor.proofs.Chosen.{Every, all, _&_}
 use Rattle.cursor.proofs.Ends.{Ends, well, ill, cut, Any, branch, then, either}
 use Rattle.types.specs.Items.{start, addSome}
-use Rattle.parts.specs.Recovery.{skipTurn, skip, skipped, recovering, logHere, lineEnd, afterStmt}
+use Rattle.parts.specs.Recovery.{skipCases, skipTurn, skip, skipped, recovering, logHere, lineEnd, afterStmt}
 use Rattle.rules.specs.Inner.{Inner}
 use Rattle.rules.specs.Statements.{stmt}
-use Rattle.rules.specs.Body.{stmtOr, bodyTurn, body}
+use Rattle.rules.specs.Exprs.{stmtOr, exprsTurn, exprs}
 use Rattle.rules.specs.Levels.{knot, levels, programRecord, program}
 
 -- done or refused, no fault
@@ -112,10 +113,10 @@ module _ (e : Sheet) where
   unfolding eat
   eat-sure k = binds (check-sure k) (λ here. ifs here (thens bump-sure gives) gives)
 
-  pick-sure : (ks : List ℕ) (i : ℕ) → Sure (pickFrom e ks i)
-  unfolding pickFrom
-  pick-sure [] i = gives
-  pick-sure (k ∷ ks) i = binds (check-sure k) (λ here. ifs here gives (pick-sure ks (i + 1)))
+  chooses : {A : Type 0} (cases : List (Case A)) {other : Rule A} → Every Sure cases → Sure other → Sure (choose e cases other)
+  unfolding choose
+  chooses [] all x = x
+  chooses ((k ⇒ r) ∷ cases) (h & hs) x = binds (check-sure k) (λ here. ifs here h (chooses cases hs x))
 
 append-sure : (l : Label) (first : ℕ) → Sure (append l first)
 unfolding append
@@ -142,7 +143,7 @@ module _ (e : Sheet) where
 
   skip-turn-sure : (end : ℕ) (a : Unit) → Sure (skipTurn e end a)
   unfolding skipTurn
-  skip-turn-sure end a = binds (pick-sure e (kind.Eol ∷ kind.Eof ∷ end ∷ []) 0) (λ which. ifs (ltb which 3) gives (thens (bump-sure e) gives))
+  skip-turn-sure end a = chooses e (skipCases e end) (gives & gives & gives & all) (thens (bump-sure e) gives)
 
   skip-sure : (end : ℕ) → Sure (skip e end)
   unfolding skip
@@ -177,16 +178,16 @@ module _ (r : Inner) where
   unfolding stmtOr
   stmt-or-sure end = recovers (stmt r) (λ link. gives) (skipped-sure (r .sheet) end)
 
-  pub body-turn-sure : (end : ℕ) (kids : Kids) → Sure (bodyTurn r end kids)
-  unfolding bodyTurn
+  pub body-turn-sure : (end : ℕ) (kids : Kids) → Sure (exprsTurn r end kids)
+  unfolding exprsTurn
   body-turn-sure end kids = binds (eat-sure (r .sheet) end) (λ closed. ifs closed gives (binds (stmt-or-sure end) (λ link. after-stmt-sure (r .sheet) end kids link)))
 
-  pub body-sure : (end : ℕ) → Sure (body r end)
-  unfolding body
+  pub body-sure : (end : ℕ) → Sure (exprs r end)
+  unfolding exprs
   body-sure end = thens (eat-eol-sure (r .sheet)) (loops (body-turn-sure end) (r .sheet) noKids)
 
 -- a whole program: without a level left its statements are refused
-pub levels-sure : (e : Sheet) (d end : ℕ) → Sure (levels e d .body end)
+pub levels-sure : (e : Sheet) (d end : ℕ) → Sure (levels e d .exprs end)
 unfolding knot
 levels-sure e zero end = refuses
 levels-sure e (suc d) end = body-sure (levels e d) end

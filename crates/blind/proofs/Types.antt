@@ -8,17 +8,20 @@ use Rattle.cursor.specs.Node as node
 use Rattle.cursor.specs.Sheet.{Sheet}
 use Rattle.cursor.specs.Rule.{Out, Rule}
 use Rattle.cursor.specs.Records.{noKids}
+use Rattle.cursor.proofs.Chosen.{all, _&_}
 use Rattle.cursor.proofs.Keeps.{Mark}
 use Rattle.types.specs.declared.items.Items.{Items}
 use Rattle.types.specs.Items.{so}
-use Rattle.types.specs.Types.{pickOne, unionTurn, union, type, returns, named, typedIdent, tableTyPair, tableTyOther, typeItem, typeLastKind, typeEnd, typeLastItem, typeLast, lastOf, typeItems, typeParen, typeTable, typeFunction, typeChain, typeBy, typeAtom, atoms, params, closureParams}
-use Rattle.types.specs.Patterns.{patternEnd, patternLast, tablePatternPair, patternItem, patternItems, patternEnded, patternRow, patternChain, patternBy, pattern, patterns}
+use Rattle.types.specs.ItemRules as items
+use Rattle.types.specs.ItemRules.{byRule}
+use Rattle.types.specs.Types.{unionTurn, union, type, returns, named, typedIdent, tableTyPair, tableTyOther, typeItem, typeLastKind, typeEnd, typeLastItem, typeLast, lastOf, typeItems, typeParen, typeTable, typeFunction, typeCases, typeAtom, atoms, params, closureParams}
+use Rattle.types.specs.Patterns.{patternEnd, patternLast, tablePatternPair, patternItem, patternItems, patternEnded, patternRow, patternCases, pattern, patterns}
 use Rattle.blind.proofs.Blind.{too-deep, Twins, Blind, gives, refuses, ifs, binds, thens, loops}
-use Rattle.blind.proofs.Cursor.{bump-blind, check-blind, eat-blind, expect-blind, pick-blind, add-blind}
+use Rattle.blind.proofs.Cursor.{bump-blind, check-blind, eat-blind, expect-blind, chooses, add-blind}
 use Rattle.blind.proofs.Items.{start-blind, close-blind, pair-blind, add-some-blind, lit-blind, ident-blind, last-item-blind, items-until-with-last-blind}
 
--- one of four at both ends
-picks : {A : Type 0} {m : Mark} (k : ℕ) {a b c d a1 b1 c1 d1 : Out A} → Twins m a a1 → Twins m b b1 → Twins m c c1 → Twins m d d1 → Twins m (pickOne k a b c d) (pickOne k a1 b1 c1 d1)
+-- what goes with an item rule, at both ends
+picks : {A : Type 0} {m : Mark} (k : ℕ) {a b c d a1 b1 c1 d1 : Out A} → Twins m a a1 → Twins m b b1 → Twins m c c1 → Twins m d d1 → Twins m (byRule k a b c d) (byRule k a1 b1 c1 d1)
 picks zero p q r t = p
 picks (suc zero) p q r t = q
 picks (suc (suc zero)) p q r t = r
@@ -70,7 +73,7 @@ module _ (e : Sheet) (atom : Rule ℕ) (x : Blind atom) where
 
   type-last-item-blind : (k : ℕ) → Blind (typeLastItem e atom k)
   unfolding typeLastItem
-  type-last-item-blind k = record { ends = λ m s w v h t. ifs (eqb k 2) table-ty-other-blind (thens (expect-blind e kind.Ellipsis) (type-item-blind k)) .ends m s w v h t }
+  type-last-item-blind k = record { ends = λ m s w v h t. ifs (eqb k items.TableTyPairs) table-ty-other-blind (thens (expect-blind e kind.Ellipsis) (type-item-blind k)) .ends m s w v h t }
 
   type-last-blind : (k : ℕ) (i : Items) → Blind (typeLast e atom k i)
   unfolding typeLast
@@ -90,33 +93,23 @@ module _ (e : Sheet) (atom : Rule ℕ) (x : Blind atom) where
 
   type-table-blind : (from : ℕ) → Blind (typeTable e atom from)
   unfolding typeTable
-  type-table-blind from = thens (bump-blind e) (binds (type-items-blind 2 noKids) (λ i. close-blind node.TyTable from 0 0 _ (i .kids .first)))
+  type-table-blind from = thens (bump-blind e) (binds (type-items-blind items.TableTyPairs noKids) (λ i. close-blind node.TyTable from 0 0 _ (i .kids .first)))
 
   type-function-blind : (from : ℕ) → Blind (typeFunction e atom from)
   unfolding typeFunction
-  type-function-blind from = thens (bump-blind e) (binds (type-items-blind 3 noKids) (λ i. binds returns-blind (λ r. binds (add-some-blind (i .kids) r) (λ kids. close-blind node.TyFunction from 0 0 _ (kids .first)))))
-
-  type-by-blind : (from which : ℕ) → Blind (typeBy e atom from which)
-  unfolding typeBy
-  type-by-blind from which = record {
-    ends = λ m s w v h t. picks which
-        (type-paren-blind from .ends m s w v h t)
-        (ident-blind e .ends m s w v h t)
-        (type-table-blind from .ends m s w v h t)
-        (ifs (eqb which 3) (type-function-blind from) (lit-blind e) .ends m s w v h t);
-  }
+  type-function-blind from = thens (bump-blind e) (binds (type-items-blind items.Types noKids) (λ i. binds returns-blind (λ r. binds (add-some-blind (i .kids) r) (λ kids. close-blind node.TyFunction from 0 0 _ (kids .first)))))
 
   type-atom-blind : Blind (typeAtom e atom)
   unfolding typeAtom
-  type-atom-blind = binds (start-blind e) (λ from. binds (pick-blind e (typeChain e) 0) (λ which. type-by-blind from which))
+  type-atom-blind = binds (start-blind e) (λ from. chooses e (typeCases e atom from) (type-paren-blind from & ident-blind e & type-table-blind from & type-function-blind from & all) (lit-blind e))
 
   pub params-blind : (kids : Kids) → Blind (params e atom kids)
   unfolding params
-  params-blind kids = thens (expect-blind e kind.OpenParen) (type-items-blind 0 kids)
+  params-blind kids = thens (expect-blind e kind.OpenParen) (type-items-blind items.TypedIdents kids)
 
   pub closure-params-blind : (kids : Kids) → Blind (closureParams e atom kids)
   unfolding closureParams
-  closure-params-blind kids = thens (expect-blind e kind.VBar) (type-items-blind 1 kids)
+  closure-params-blind kids = thens (expect-blind e kind.VBar) (type-items-blind items.AtomTypedIdents kids)
 
 pub atoms-blind : (e : Sheet) (d : ℕ) → Blind (atoms e d)
 unfolding atoms
@@ -140,7 +133,8 @@ module _ (e : Sheet) where
 
     pattern-item-blind : (k : ℕ) → Blind (patternItem e inner k)
     unfolding patternItem
-    pattern-item-blind k = record { ends = λ m s w v h t. picks k (table-pattern-pair-blind .ends m s w v h t) (x .ends m s w v h t) (x .ends m s w v h t) (x .ends m s w v h t) }
+    pattern-item-blind zero = record { ends = λ m s w v h t. table-pattern-pair-blind .ends m s w v h t }
+    pattern-item-blind (suc k) = record { ends = λ m s w v h t. x .ends m s w v h t }
 
     pattern-items-blind : (k : ℕ) (kids : Kids) → Blind (patternItems e inner k kids)
     unfolding patternItems
@@ -150,19 +144,10 @@ module _ (e : Sheet) where
     unfolding patternRow
     pattern-row-blind from k n = thens (bump-blind e) (binds (pattern-items-blind k noKids) (λ i. close-blind n from _ _ _ (i .kids .first)))
 
-    pattern-by-blind : (from which : ℕ) → Blind (patternBy e inner from which)
-    unfolding patternBy
-    pattern-by-blind from which = record {
-      ends = λ m s w v h t. picks which
-          (ident-blind e .ends m s w v h t)
-          (pattern-row-blind from 0 node.PatternTable .ends m s w v h t)
-          (pattern-row-blind from 1 node.PatternList .ends m s w v h t)
-          (lit-blind e .ends m s w v h t);
-    }
-
     pattern-blind : Blind (pattern e inner)
     unfolding pattern
-    pattern-blind = binds (start-blind e) (λ from. binds (pick-blind e (patternChain e) 0) (λ which. pattern-by-blind from which))
+    pattern-blind =
+        binds (start-blind e) (λ from. chooses e (patternCases e inner from) (ident-blind e & pattern-row-blind from items.Pairs node.PatternTable & pattern-row-blind from items.Patterns node.PatternList & all) (lit-blind e))
 
 pub patterns-blind : (e : Sheet) (d : ℕ) → Blind (patterns e d)
 unfolding patterns

@@ -1,6 +1,6 @@
 -- What is at the front of an expression and of a statement: what an attempted key reads of it in vain, and whether it is a `fn`. Of a group all that is in it
 -- is read, of a literal its token, and of anything else nothing; behind the two no Colon stands, so that no key is there.
-use Prim.Native.Nat.{ℕ, suc, _+_, _<_, _≤_}
+use Prim.Native.Nat.{ℕ, suc, _+_, _≤_}
 use mathlib.Core.Path.{_≡_, refl, sym, ap, _∙_, subst}
 use mathlib.Core.List.{List}
 use mathlib.Core.Bool.{Bool, true, false}
@@ -9,10 +9,11 @@ use lib.Dec.{eqb}
 use Rattle.kinds.specs.Number as kind
 use Rattle.kinds.specs.Operators.{levelOf}
 use Rattle.grammar.specs.Places.{Place, kindOf, Tok, Here, Not, Free, from-all}
-use Rattle.grammar.specs.Symbols.{Form, Name, NameMember, Call, Other, memberOf, Eols, Lit, Body, Stmts, Stmt, Lefts, Expr, Prec, Ops, Unary, Primary, Posts, Atom}
+use Rattle.grammar.specs.Symbols.{Form, Name, NameMember, Call, Other, memberOf, Eols, Lit, Exprs, Stmts, Stmt, Lefts, Expr, Prec, Ops, Unary, Primary, Posts, Atom}
 use Rattle.grammar.specs.Derives.{Derives, Compound, signs}
 use Rattle.grammar.specs.Derives as by
 use Rattle.grammar.specs.Words.{among}
+use Rattle.grammar.proofs.Levels.{some-level}
 use Rattle.grammar.proofs.Tests.{at-token, elsewhere, colon-level}
 use Rattle.grammar.proofs.FirstKinds.{lits, apart}
 use Rattle.grammar.proofs.Starts.{starts}
@@ -70,7 +71,7 @@ module _ {text : List ℕ} where
 
   ops-colon : {n : ℕ} {lambda : Bool} {f g : Form} {p q : Place} → Derives text (Ops n lambda f g) p q → Not kind.Colon q → Not kind.Colon p
   ops-colon (by.no-op h) n = n
-  ops-colon (by.binary {n = m} l h a d e) n = record { differs = λ q. let i = subst (λ j. m < levelOf j) (sym (a .here) ∙ q) l in absurd (omega (arith, i, colon-level)) }
+  ops-colon (by.binary {n = m} l h a d e) n = record { differs = λ q. let i = subst (λ j. m ≤ levelOf j) (sym (a .here) ∙ q) l in absurd (omega (arith, i, colon-level, some-level e)) }
   ops-colon (by.type-check l a c b e) n = elsewhere kind.Colon refl (at-token a)
 
   -- all Eols are taken
@@ -118,7 +119,7 @@ module _ {text : List ℕ} where
     token-front f g i t = other-front f g i (at-token t)
 
   -- a group, a literal, and a function without a name
-  group-front : {p u v x : Place} (a : Tok kind.OpenParen p u) (D : Derives text (Expr true) u v) (b : Tok kind.CloseParen v x) → Front text (Behind Other x) p (costs (by.group a D b)) (records (by.group a D b)) (need (by.group a D b))
+  group-front : {p u v x : Place} (a : Tok kind.OpenParen p u) (D : Derives text (Expr true) u v) (b : Tok kind.CloseParen v x) → Front text (Behind Other x) p (costs (by.paren-expr a D b)) (records (by.paren-expr a D b)) (need (by.paren-expr a D b))
   unfolding costs records need
   group-front a D b =
       let i = one-spent a refl in
@@ -139,7 +140,7 @@ module _ {text : List ℕ} where
 
   atom-front : {f : Form} {p q : Place} (D : Derives text (Atom f) p q) → Front text (Behind f q) p (costs D) (records D) (need D)
   unfolding costs records need among
-  atom-front (by.group a d b) = group-front a d b
+  atom-front (by.paren-expr a d b) = group-front a d b
   atom-front (by.name d) = other-front refl refl refl (starts d)
   atom-front (by.table a d) = token-front refl refl refl a
   atom-front (by.block-expr a e h d) = token-front refl refl refl a
@@ -168,8 +169,8 @@ module _ {text : List ℕ} where
 
   unary-front : {lambda : Bool} {f : Form} {p q : Place} (D : Derives text (Unary lambda f) p q) → Front text (Behind f q) p (costs D) (records D) (need D)
   unfolding costs records need among
-  unary-front (by.negated a d) = token-front refl refl refl a
-  unary-front (by.minus a d) = token-front refl refl refl a
+  unary-front (by.not-expr a d) = token-front refl refl refl a
+  unary-front (by.neg-expr a d) = token-front refl refl refl a
   unary-front (by.tried a d e) = token-front refl refl refl a
   unary-front (by.no-unary d) = front-on (λ u. u) (λ n. n) (omega arith) (omega arith) (primary-front d)
 
@@ -196,7 +197,7 @@ module _ {text : List ℕ} where
   stmt-leads (by.glo-fn a b d e) = word-leads refl refl (at-token a)
   stmt-leads (by.glo-effect a d) = word-leads refl refl (at-token a)
   stmt-leads (by.glo-assign a d b e) = word-leads refl refl (at-token a)
-  stmt-leads (by.plain d h) = opened-leads d (λ _. signs-colon h) (omega arith) (omega arith)
+  stmt-leads (by.expr-stmt d h) = opened-leads d (λ _. signs-colon h) (omega arith) (omega arith)
   stmt-leads (by.assign d f a e) = opened-leads d (λ _. elsewhere kind.Colon refl (at-token a)) (omega arith) (omega arith)
   stmt-leads (by.typed-assign d a e b f) = opened-leads d (λ u. absurd u) (omega arith) (omega arith)
   stmt-leads (by.op-assign d f c a e) = opened-leads d (λ _. compound-colon c a) (omega arith) (omega arith)
@@ -210,7 +211,7 @@ module _ {text : List ℕ} where
   stmts-leads (by.a-line d a b e) = leads-on (λ x c. c) (omega arith) (omega arith) (stmt-leads d)
 
   -- statements behind all Eols
-  pub body-leads : {p q r : Place} → Derives text Eols p q → (D : Derives text (Body kind.CloseBrace) q r) → Leads text (Not kind.Colon) q (lead D) (records D) (need D)
+  pub body-leads : {p q r : Place} → Derives text Eols p q → (D : Derives text (Exprs kind.CloseBrace) q r) → Leads text (Not kind.Colon) q (lead D) (records D) (need D)
   unfolding costs records need
-  body-leads e (by.body-of (by.no-eol h) d) = stmts-leads d
-  body-leads e (by.body-of (by.an-eol a b) d) = absurd (eols-end e .differs (a .here))
+  body-leads e (by.exprs-of (by.no-eol h) d) = stmts-leads d
+  body-leads e (by.exprs-of (by.an-eol a b) d) = absurd (eols-end e .differs (a .here))

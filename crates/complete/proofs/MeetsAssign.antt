@@ -5,22 +5,23 @@ use mathlib.Core.List.{List}
 use mathlib.Core.Bool.{Bool, true, false}
 use Prim.Native.Nat.{ℕ, suc, _+_, _*_, _^_, _<_, max}
 use native.Mathlib.Omega.{arith}
-use lib.ListN.{getD, length}
-use lib.Dec.{ltb, eqb}
+use lib.ListN.{length}
+use lib.Dec.{eqb}
 use borrow.Author.Tests.{lt-ltb, le-ltb}
 use Rattle.kinds.specs.Number as kind
 use Rattle.cursor.specs.declared.Kids.{Kids}
 use Rattle.cursor.specs.Node as node
 use Rattle.cursor.specs.Sheet.{Sheet}
 use Rattle.cursor.specs.Rule.{Rule, _>>=_, give, more, iterate}
+use Rattle.cursor.specs.Checks.{choose}
 use Rattle.cursor.specs.Records.{word32, add}
 use Rattle.parts.specs.declared.values.Expr.{Expr}
 use Rattle.parts.specs.declared.values.Expr.the-variants as exprs
 use Rattle.parts.specs.declared.values.AssignLeft.the-variants as assigns
-use Rattle.parts.specs.Values.{rowWith, uncounted}
+use Rattle.parts.specs.Values.{linkOf, rowWith, uncounted}
 use Rattle.parts.specs.When.{when}
 use Rattle.parts.specs.Steps.{operatorOf}
-use Rattle.rules.specs.Statements.{signChain, right, setTo, set, typed as typedRule, leftOf, leftTurn, lefts, rightTurn, rights, multiTo, multi as multiRule, assign as assignRule}
+use Rattle.rules.specs.Statements.{right, setTo, set, typedAssign as typedRule, leftOf, leftTurn, lefts, rightTurn, rights, multiTo, multi as multiRule, signCases, assign as assignRule}
 use Rattle.rules.specs.Levels.{levels}
 use Rattle.rules.proofs.Takes.{left-turn-takes, right-turn-takes}
 use Rattle.grammar.specs.Places.{Place, after, Tok, Here, Not, Free}
@@ -34,7 +35,7 @@ use Rattle.complete.proofs.Records.{records}
 use Rattle.complete.specs.Depth.{need}
 use Rattle.complete.proofs.Meets.{Cost, _⊕_, nothing, inside, costOf, Any, Goes, goes, stops, Meets}
 use Rattle.complete.proofs.MeetsBinds.{gives, answers, answers-stop, yes-so, not-so, fits, maps, next, turn-more, turn-stop}
-use Rattle.complete.proofs.MeetsSteps.{position, after-none, before-none, add-meets, bumps, expects, here, not-here, ranges, ranges-not, picks, picks-none}
+use Rattle.complete.proofs.MeetsSteps.{ruleFor, after-none, before-none, add-meets, bumps, expects, here, not-here, ranges, ranges-not, chooses, chooses-none}
 use Rattle.complete.proofs.MeetsValues.{close-meets, pair-meets}
 use Rattle.complete.proofs.MeetsTypes.{types-meet}
 use Rattle.complete.proofs.MeetsRecords.{couple-meets, row-record-meets}
@@ -87,10 +88,10 @@ module _ {e : Sheet} {d : ℕ} where
 module _ {e : Sheet} {d : ℕ} (h : Handed e d) where
   -- an expression that is assigned to, and one that a Colon stands behind
   module _ {B : Type 0} {p q v : Place} {c : Cost} {Q : B → Type 0} (k : Expr → Rule B) where
-    next-left : {f : Form} (D : Derives (e .text) (Prec 0 true f) p q) → Assignable f → ((link : ℕ) → Meets e d q v c Q (k (exprs.Name link))) → ((link : ℕ) → Meets e d q v c Q (k (exprs.NameMember link))) → Meets e d p v (inside (costOf D) ⊕ c) Q (levels e d .prec 1 true >>= k)
+    next-left : {f : Form} (D : Derives (e .text) (Prec 1 true f) p q) → Assignable f → ((link : ℕ) → Meets e d q v c Q (k (exprs.Name link))) → ((link : ℕ) → Meets e d q v c Q (k (exprs.NameMember link))) → Meets e d p v (inside (costOf D) ⊕ c) Q (levels e d .prec 1 true >>= k)
     next-left D a f g = next (h .precs D) (λ x i. by-left (λ y. Meets e d q v c Q (k y)) a f g x i)
 
-    next-name : (D : Derives (e .text) (Prec 0 true Name) p q) → ((link : ℕ) → Meets e d q v c Q (k (exprs.Name link))) → Meets e d p v (inside (costOf D) ⊕ c) Q (levels e d .prec 1 true >>= k)
+    next-name : (D : Derives (e .text) (Prec 1 true Name) p q) → ((link : ℕ) → Meets e d q v c Q (k (exprs.Name link))) → Meets e d p v (inside (costOf D) ⊕ c) Q (levels e d .prec 1 true >>= k)
     next-name D f = next (h .precs D) (λ x i. by-name (λ y. Meets e d q v c Q (k y)) f x i)
 
   -- further left sides, counted in a word
@@ -143,46 +144,46 @@ module _ {e : Sheet} {d : ℕ} (h : Handed e d) where
 
     -- an expression and what it begins, by the sign behind it
     module _ (from : ℕ) where
-      pub plain-meets : {f : Form} {p q : Place} (D : Derives (e .text) (Prec 0 true f) p q) → Free signs q → Meets e d p q (inside (costOf D)) Any (assignRule (levels e d) from)
+      pub plain-meets : {f : Form} {p q : Place} (D : Derives (e .text) (Prec 1 true f) p q) → Free signs q → Meets e d p q (inside (costOf D)) Any (assignRule (levels e d) from)
       unfolding assignRule
-      plain-meets D n = before-none (h .precs D) (λ x _. picks-none _ n answers)
+      plain-meets D n = before-none (h .precs D) (λ x _. chooses-none (signCases (levels e d) from x) n answers)
 
-      -- the signs of an assignment with one right side come third and later
-      set-by : {f : Form} {k : ℕ} {p q r s : Place} → eqb (position k signChain) 0 ≡ false → eqb (position k signChain) 1 ≡ false → ltb 7 (position k signChain) ≡ false → (D : Derives (e .text) (Prec 0 true f) p q) → Assignable f → Tok k q r → (E : Derives (e .text) (Whole true) r s)
+      -- the sign of an assignment with one right side leads to its rule
+      set-by : {f : Form} {k : ℕ} {p q r s : Place} → ((x : Expr) → ruleFor k (signCases (levels e d) from x) (give (linkOf x)) ≡ set (levels e d) from k x) → (D : Derives (e .text) (Prec 1 true f) p q) → Assignable f → Tok k q r → (E : Derives (e .text) (Whole true) r s)
           → Meets e d p s (inside (costOf D) ⊕ record { reads = taken q + cost E; nodes = records E + 1; need = need E }) Any (assignRule (levels e d) from)
       unfolding assignRule set
-      set-by {k = k} {q = q} {s = s} i j l D a t E = next-left _ D a (λ link. picks _ signChain (t .here) (not-so _ i (not-so _ j (not-so _ l (sets link))))) (λ link. picks _ signChain (t .here) (not-so _ i (not-so _ j (not-so _ l (sets link)))))
+      set-by {k = k} {q = q} {s = s} i D a t E = next-left _ D a (λ link. by (exprs.Name link) (set-meets (t .next) E from k link)) (λ link. by (exprs.NameMember link) (set-meets (t .next) E from k link))
         where
-          sets : (link : ℕ) → Meets e d q s (record { reads = taken q + cost E; nodes = records E + 1; need = need E }) Any (setTo (levels e d) from (getD signChain (position k signChain) 0) (assigns.To link))
-          sets link = set-meets (t .next) E from (getD signChain (position k signChain) 0) link
+          by : {c : Cost} (x : Expr) → Meets e d q s c Any (set (levels e d) from k x) → Meets e d q s c Any (choose e (signCases (levels e d) from x) (give (linkOf x)))
+          by {c} x y = chooses (signCases (levels e d) from x) _ (t .here) (subst (Meets e d q s c Any) (sym (i x)) y)
 
-      pub assign-meets : {f : Form} {p q r s : Place} (D : Derives (e .text) (Prec 0 true f) p q) → Assignable f → Tok kind.Assign q r → (E : Derives (e .text) (Whole true) r s)
+      pub assign-meets : {f : Form} {p q r s : Place} (D : Derives (e .text) (Prec 1 true f) p q) → Assignable f → Tok kind.Assign q r → (E : Derives (e .text) (Whole true) r s)
           → Meets e d p s (inside (costOf D) ⊕ record { reads = taken q + cost E; nodes = records E + 1; need = need E }) Any (assignRule (levels e d) from)
-      assign-meets D a t E = set-by refl refl refl D a t E
+      assign-meets D a t E = set-by (λ x. refl) D a t E
 
-      pub op-assign-meets : {f : Form} {k op : ℕ} {p q r s : Place} (D : Derives (e .text) (Prec 0 true f) p q) → Assignable f → Compound k op → Tok k q r → (E : Derives (e .text) (Whole true) r s)
+      pub op-assign-meets : {f : Form} {k op : ℕ} {p q r s : Place} (D : Derives (e .text) (Prec 1 true f) p q) → Assignable f → Compound k op → Tok k q r → (E : Derives (e .text) (Whole true) r s)
           → Meets e d p s (inside (costOf D) ⊕ record { reads = taken q + cost E; nodes = records E + 1; need = need E }) Any (assignRule (levels e d) from)
-      op-assign-meets D a adding t E = set-by refl refl refl D a t E
-      op-assign-meets D a subtracting t E = set-by refl refl refl D a t E
-      op-assign-meets D a multiplying t E = set-by refl refl refl D a t E
-      op-assign-meets D a dividing t E = set-by refl refl refl D a t E
-      op-assign-meets D a remaining t E = set-by refl refl refl D a t E
+      op-assign-meets D a adding t E = set-by (λ x. refl) D a t E
+      op-assign-meets D a subtracting t E = set-by (λ x. refl) D a t E
+      op-assign-meets D a multiplying t E = set-by (λ x. refl) D a t E
+      op-assign-meets D a dividing t E = set-by (λ x. refl) D a t E
+      op-assign-meets D a remaining t E = set-by (λ x. refl) D a t E
 
-      pub typed-assign-meets : {p q r s t u : Place} (D : Derives (e .text) (Prec 0 true Name) p q) → Tok kind.Colon q r → (T : Derives (e .text) Ty r s) → Tok kind.Assign s t → (E : Derives (e .text) (Whole true) t u)
+      pub typed-assign-meets : {p q r s t u : Place} (D : Derives (e .text) (Prec 1 true Name) p q) → Tok kind.Colon q r → (T : Derives (e .text) Ty r s) → Tok kind.Assign s t → (E : Derives (e .text) (Whole true) t u)
           → Meets e d p u (inside (costOf D) ⊕ record { reads = taken q + cost T + taken s + cost E; nodes = records T + 1 + records E + 1; need = max (need T) (need E) }) Any (assignRule (levels e d) from)
       unfolding assignRule
-      typed-assign-meets D a T b E = next-name _ D (λ link. picks _ signChain (a .here) (typed-rest a T b E from link))
+      typed-assign-meets D a T b E = next-name _ D (λ link. chooses (signCases (levels e d) from (exprs.Name link)) _ (a .here) (typed-rest a T b E from link))
 
       -- a comma behind a first left side
-      several : {f : Form} {n : ℕ} {p q r t : Place} {c : Cost} (D : Derives (e .text) (Prec 0 true f) p q) → Assignable f → Derives (e .text) (Lefts (suc n)) q r → ((link : ℕ) → Meets e d q t c Any (multiTo (levels e d) from (assigns.To link)))
+      several : {f : Form} {n : ℕ} {p q r t : Place} {c : Cost} (D : Derives (e .text) (Prec 1 true f) p q) → Assignable f → Derives (e .text) (Lefts (suc n)) q r → ((link : ℕ) → Meets e d q t c Any (multiTo (levels e d) from (assigns.To link)))
           → Meets e d p t (inside (costOf D) ⊕ c) Any (assignRule (levels e d) from)
       unfolding assignRule multiRule
-      several D a L x = next-left _ D a (λ link. picks _ signChain (lefts-first L .stands) (x link)) (λ link. picks _ signChain (lefts-first L .stands) (x link))
+      several D a L x = next-left _ D a (λ link. chooses (signCases (levels e d) from (exprs.Name link)) _ (lefts-first L .stands) (x link)) (λ link. chooses (signCases (levels e d) from (exprs.NameMember link)) _ (lefts-first L .stands) (x link))
 
-      pub unpack-meets : {f : Form} {n : ℕ} {p q r s t : Place} (D : Derives (e .text) (Prec 0 true f) p q) → Assignable f → (L : Derives (e .text) (Lefts (suc n)) q r) → Tok kind.Assign r s → (E : Derives (e .text) (Whole true) s t) → Not kind.Comma t
+      pub unpack-meets : {f : Form} {n : ℕ} {p q r s t : Place} (D : Derives (e .text) (Prec 1 true f) p q) → Assignable f → (L : Derives (e .text) (Lefts (suc n)) q r) → Tok kind.Assign r s → (E : Derives (e .text) (Whole true) s t) → Not kind.Comma t
           → Meets e d p t (inside (costOf D) ⊕ record { reads = cost L + taken r + cost E; nodes = records L + records E + 1; need = max (need L) (need E) }) Any (assignRule (levels e d) from)
       unpack-meets D a L t E n = several D a L (λ link. unpack-rest L t E n from link)
 
-      pub multi-meets : {f : Form} {n : ℕ} {p q r s t u : Place} (D : Derives (e .text) (Prec 0 true f) p q) → Assignable f → (L : Derives (e .text) (Lefts (suc n)) q r) → Tok kind.Assign r s → (E : Derives (e .text) (Whole true) s t) (R : Derives (e .text) (Rights (suc n)) t u)
+      pub multi-meets : {f : Form} {n : ℕ} {p q r s t u : Place} (D : Derives (e .text) (Prec 1 true f) p q) → Assignable f → (L : Derives (e .text) (Lefts (suc n)) q r) → Tok kind.Assign r s → (E : Derives (e .text) (Whole true) s t) (R : Derives (e .text) (Rights (suc n)) t u)
           → Meets e d p u (inside (costOf D) ⊕ record { reads = cost L + taken r + cost E + cost R; nodes = records L + records E + records R + 1; need = max (max (need L) (need E)) (need R) }) Any (assignRule (levels e d) from)
       multi-meets D a L t E R = several D a L (λ link. multi-rest L t E R from link)

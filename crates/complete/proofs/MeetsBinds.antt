@@ -8,7 +8,7 @@ use Rattle.cursor.specs.declared.State.{State}
 use Rattle.cursor.specs.declared.Fault.{Fault}
 use Rattle.cursor.specs.Sheet.{Sheet}
 use Rattle.cursor.specs.Rule.{World, Out, bind, Rule, _>>=_, orElse, give, refuse, ifSo, Next, more, stop, Turn, iterate}
-use Rattle.cursor.specs.Attempts.{attempt, recover}
+use Rattle.cursor.specs.Attempts.{tryParse, recover}
 use Rattle.cursor.proofs.Loops.{Takes, loop-more, loop-stop, loop-failed}
 use Rattle.grammar.specs.Places.{Place}
 use Rattle.complete.proofs.Meets.{Cost, _⊕_, nothing, inside, Any, Goes, goes, Stops, stops, Arrived, few-nodes, few-levels, few-reads, full, EndsAt, arrives, short, Meets, lacks, lacks-first, lacks-later, stays, arrived-trans}
@@ -99,8 +99,8 @@ module _ {e : Sheet} {A B : Type 0} {d : ℕ} {q v : Place} {a b : Cost} {P : A 
     next = record { runs = λ s w h z. onward (first .runs s w h z) (λ s1 w1 x y i. then x i .runs s1 w1 (y .calm) (y .place)) }
 
     -- an attempt or a recovery whose rule meets its end: the other way is not gone
-    pub kept-attempt : (back : Rule B) → Meets e d p v (a ⊕ b) Q (attempt r k back)
-    unfolding attempt
+    pub kept-attempt : (back : Rule B) → Meets e d p v (a ⊕ b) Q (tryParse r k back)
+    unfolding tryParse
     kept-attempt back = record { runs = λ s w h z. onward-else _ (first .runs s w h z) (λ s1 w1 x y i. then x i .runs s1 w1 (y .calm) (y .place)) }
 
     pub kept-recover : (back : Rule B) → Meets e d p v (a ⊕ b) Q (recover r k back)

@@ -1,20 +1,20 @@
 -- Expressions, blocks and functions, over what the rules are handed; and the lists of expressions.
 use mathlib.Core.Path.{_≡_, refl}
 use mathlib.Core.Bool.{Bool, true, false}
-use Prim.Native.Nat.{ℕ, _+_}
+use Prim.Native.Nat.{ℕ}
 use native.Mathlib.Omega.{arith}
 use Rattle.kinds.specs.Number as kind
 use Rattle.cursor.specs.declared.Kids.{Kids}
 use Rattle.cursor.specs.Sheet.{Sheet}
 use Rattle.parts.specs.Steps.{itemsEnd}
 use Rattle.rules.specs.Inner.{expr}
-use Rattle.rules.specs.Blocks.{block, andBlock}
+use Rattle.rules.specs.Blocks.{block, exprAndBlock}
 use Rattle.rules.specs.Functions.{function}
 use Rattle.rules.specs.Tables.{item, itemsOf, brace}
 use Rattle.rules.specs.Levels.{levels}
 use Rattle.rules.proofs.Takes.{until-turn-takes}
 use Rattle.grammar.specs.Places.{Place, Tok, Not}
-use Rattle.grammar.specs.Symbols.{Form, Eols, Until, NoLast, Body, Block, Function, Expr, Prec, Property}
+use Rattle.grammar.specs.Symbols.{Form, Eols, Until, NoLast, Exprs, Block, Function, Expr, Prec, Property}
 use Rattle.grammar.specs.Derives.{Derives, block-of, function-of, expr-of, table, block-expr}
 use Rattle.grammar.specs.Words.{among}
 use Rattle.grammar.proofs.FirstKinds.{opening-apart}
@@ -34,13 +34,13 @@ use Rattle.complete.proofs.MeetsRecords.{wrapping, block-record-meets, 
 
 -- what the rules are handed: expressions and statements one level further in
 pub record Handed (e : Sheet) (d : ℕ) : Type 0 where
-  pub precs : {n : ℕ} {lambda : Bool} {f : Form} {p q : Place} (D : Derives (e .text) (Prec n lambda f) p q) → Meets e d p q (inside (costOf D)) (λ x. formOf x ≡ f) (levels e d .prec (n + 1) lambda)
-  pub bodies : {p q : Place} (D : Derives (e .text) (Body kind.CloseBrace) p q) → Meets e d p q (inside (costOf D)) Any (levels e d .body kind.CloseBrace)
+  pub precs : {n : ℕ} {lambda : Bool} {f : Form} {p q : Place} (D : Derives (e .text) (Prec n lambda f) p q) → Meets e d p q (inside (costOf D)) (λ x. formOf x ≡ f) (levels e d .prec n lambda)
+  pub bodies : {p q : Place} (D : Derives (e .text) (Exprs kind.CloseBrace) p q) → Meets e d p q (inside (costOf D)) Any (levels e d .exprs kind.CloseBrace)
 
 -- what `{` opens where an expression may begin
 pub record Braces (e : Sheet) (d : ℕ) : Type 0 where
   pub tables : {p q r : Place} (a : Tok kind.OpenBrace p q) (D : Derives (e .text) (Until Property NoLast kind.CloseBrace) q r) (from : ℕ) → Meets e d p r (costOf (table a D)) Any (brace (levels e d) from)
-  pub block-exprs : {p q r s : Place} (a : Tok kind.OpenBrace p q) (E : Derives (e .text) Eols q r) (n : Not kind.CloseBrace r) (D : Derives (e .text) (Body kind.CloseBrace) r s) (from : ℕ)
+  pub block-exprs : {p q r s : Place} (a : Tok kind.OpenBrace p q) (E : Derives (e .text) Eols q r) (n : Not kind.CloseBrace r) (D : Derives (e .text) (Exprs kind.CloseBrace) r s) (from : ℕ)
       → Meets e d p s (costOf (block-expr a E n D)) Any (brace (levels e d) from)
 
 module _ {e : Sheet} {d : ℕ} (h : Handed e d) where
@@ -58,8 +58,8 @@ module _ {e : Sheet} {d : ℕ} (h : Handed e d) where
   block-meets D = fits (omega arith) (omega arith) (omega arith) (blocks-meet D 0)
 
   -- parse_expr_and_block
-  pub and-block-meets : {p q r : Place} (D : Derives (e .text) (Expr false) p q) (E : Derives (e .text) Block q r) (kids : Kids) → Meets e d p r (costOf D ⊕ costOf E) Any (andBlock (levels e d) kids)
-  unfolding andBlock
+  pub and-block-meets : {p q r : Place} (D : Derives (e .text) (Expr false) p q) (E : Derives (e .text) Block q r) (kids : Kids) → Meets e d p r (costOf D ⊕ costOf E) Any (exprAndBlock (levels e d) kids)
+  unfolding exprAndBlock
   and-block-meets D E kids = next (exprs-meet D) (λ link _. before-none (block-meets E) (λ body _. adds kids link (λ one. any (add-meets one body))))
 
   -- arguments and elements

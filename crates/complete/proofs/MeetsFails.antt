@@ -7,7 +7,7 @@ use Rattle.cursor.specs.declared.State.{State}
 use Rattle.cursor.specs.Sheet.{Sheet}
 use Rattle.cursor.specs.Rule.{World, Out, bind, Rule, _>>=_, orElse}
 use Rattle.cursor.specs.Tokens.{rewind}
-use Rattle.cursor.specs.Attempts.{attempt}
+use Rattle.cursor.specs.Attempts.{tryParse}
 use Rattle.grammar.specs.Places.{Place}
 use Rattle.sound.proofs.Links.{placeAt, Settled}
 use Rattle.complete.proofs.Meets.{Cost, _⊕_, undone, Arrived, EndsAt, arrives, short, Meets, FailsAt, faulty, lacking, Fails, lacks, lacks-first, lacks-later}
@@ -43,8 +43,8 @@ module _ {e : Sheet} {A : Type 0} {d : ℕ} {p : Place} {a b : Cost} where
 
 -- an attempt that fails is undone, and the other rule goes on from where it began; it needs room for no fewer records, and no fewer levels
 module _ {e : Sheet} {A B : Type 0} {d : ℕ} {p v : Place} {a b : Cost} {Q : B → Type 0} {r : Rule A} (k : A → Rule B) {back : Rule B} where
-  pub retried : Fails e d p a r → a .nodes ≤ b .nodes → a .need ≤ b .need → Meets e d p v b Q back → Meets e d p v (undone a b) Q (attempt r k back)
-  unfolding attempt rewind
+  pub retried : Fails e d p a r → a .nodes ≤ b .nodes → a .need ≤ b .need → Meets e d p v b Q back → Meets e d p v (undone a b) Q (tryParse r k back)
+  unfolding tryParse rewind
   retried first l m other = record { runs = λ s w h z. go s w h z (first .fails s w h z) }
     where
       on : (s s1 : State) (w w1 : World) {o : Out B} → s1 .reads ≡ s .reads + a .reads → s1 .reads ≤ max (s .reads) (e .limits .allowance) → length (w1 .nodes) ≡ length (w .nodes) → EndsAt e d b v Q (rewind s s1) w1 o → EndsAt e d (undone a b) v Q s w o

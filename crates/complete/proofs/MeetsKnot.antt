@@ -7,7 +7,7 @@ use Rattle.kinds.specs.Number as kind
 use Rattle.cursor.specs.Sheet.{Sheet}
 use Rattle.rules.specs.Levels.{knot, levels}
 use Rattle.grammar.specs.Places.{Place}
-use Rattle.grammar.specs.Symbols.{Body}
+use Rattle.grammar.specs.Symbols.{Exprs}
 use Rattle.grammar.specs.Derives.{Derives}
 use Rattle.grammar.specs.Words.{among}
 use Rattle.complete.proofs.Meets.{inside, costOf, Any, Meets}
@@ -20,7 +20,7 @@ use Rattle.complete.proofs.MeetsBody.{body-meets}
 -- what the rules are handed, and the statements of a whole sheet
 pub record Tied (e : Sheet) (d : ℕ) : Type 0 where
   pub handed : Handed e d
-  pub sheets : {p q : Place} (D : Derives (e .text) (Body kind.Eof) p q) → Meets e d p q (inside (costOf D)) Any (levels e d .body kind.Eof)
+  pub sheets : {p q : Place} (D : Derives (e .text) (Exprs kind.Eof) p q) → Meets e d p q (inside (costOf D)) Any (levels e d .exprs kind.Eof)
 
 pub knot-meets : (e : Sheet) → length (e .tokens) < 2 ^ 32 → (d : ℕ) → Tied e d
 unfolding knot among

@@ -13,7 +13,7 @@ use Rattle.cursor.specs.Records.{noKids}
 use Rattle.types.specs.Types.{atoms}
 use Rattle.parts.specs.declared.imports.Imported.{Imported}
 use Rattle.parts.specs.Effects.{effectRecord, effectStmt}
-use Rattle.parts.specs.Imports.{endChain, tailChain, importItem, importItems, importEnd, importTail, pathTurn, importStmt}
+use Rattle.parts.specs.Imports.{importItem, importItems, importSimple, importAlias, importNested, importGlob, endCases, tailCases, importEnd, importTail, pathTurn, importStmt}
 use Rattle.parts.specs.Steps.{anyParams}
 use Rattle.parts.proofs.ImportTakes.{path-takes, import-items-keep}
 use Rattle.parts.proofs.UntilPaths.{until-takes}
@@ -27,7 +27,7 @@ use Rattle.complete.proofs.Records.{records}
 use Rattle.complete.specs.Depth.{need}
 use Rattle.complete.proofs.Meets.{_⊕_, reading, building, costOf, flatCost, Any, Meets, Reads}
 use Rattle.complete.proofs.MeetsBinds.{answers-more, answers-stop, fits, next, turn-more, turn-stop}
-use Rattle.complete.proofs.MeetsSteps.{before-none, bumps, expects, here, not-here, eats, eats-not, picks, adds}
+use Rattle.complete.proofs.MeetsSteps.{before-none, bumps, expects, here, not-here, eats, eats-not, chooses, adds}
 use Rattle.complete.proofs.MeetsValues.{close-meets, begins, adds-some, ident-meets}
 use Rattle.complete.proofs.MeetsLists.{until-meets}
 use Rattle.complete.proofs.MeetsTypes.{returns-meet, params-meet, closure-params-meet}
@@ -73,15 +73,15 @@ module _ {e : Sheet} {d : ℕ} where
 
   -- a path, name by name. The Import's own record, which is one of its derivation's, is built behind it
   path-meets : {p q : Place} (D : Derives (e .text) Path p q) (i : Imported) → Meets e d p q (record { reads = cost D; nodes = records D - 1; need = 0 }) Any (iterate e (pathTurn e) i)
-  unfolding pathTurn importEnd importTail costs records
+  unfolding pathTurn importEnd importTail importSimple importAlias importNested importGlob costs records
   path-meets (path-more D t E) i = fits (omega arith) (omega (arith, path-some E)) (omega arith) (turn-more (path-takes e) (next (ident-meets D) (λ name _. adds _ _ (λ longer. eats _ t (here _ (starts E) answers-more)))) (λ j _. path-meets E j))
-  path-meets (path-alone D h) i = turn-stop _ _ (fits (omega arith) (omega arith) (omega arith) (next (ident-meets D) (λ name _. adds _ _ (λ longer. eats-not _ (elsewhere kind.DoubleColon refl h) (picks _ endChain (h .stands) answers-stop)))))
+  path-meets (path-alone D h) i = turn-stop _ _ (fits (omega arith) (omega arith) (omega arith) (next (ident-meets D) (λ name _. adds _ _ (λ longer. eats-not _ (elsewhere kind.DoubleColon refl h) (chooses (endCases e longer) _ (h .stands) answers-stop)))))
   path-meets (path-as D t E) i = turn-stop _ _ (fits (omega arith) (omega arith) (omega arith) (next (ident-meets D) (λ name _. adds _ _ (λ longer. eats-not _ (elsewhere kind.DoubleColon refl (at-token t))
-      (picks _ endChain (t .here) (bumps (t .next) (next (ident-meets E) (λ alias _. adds _ _ (λ all. answers-stop)))))))))
+      (chooses (endCases e longer) _ (t .here) (bumps (t .next) (next (ident-meets E) (λ alias _. adds _ _ (λ all. answers-stop)))))))))
   path-meets (path-items D t b E) i = turn-stop _ _ (fits (omega arith) (omega arith) (omega arith) (next (ident-meets D) (λ name _. adds _ _ (λ longer. eats _ t (not-here _ (elsewhere kind.Ident refl (at-token b))
-      (picks _ tailChain (b .here) (bumps (b .next) (before-none (items-of E _) (λ j _. answers-stop)))))))))
+      (chooses (tailCases e longer) _ (b .here) (bumps (b .next) (before-none (items-of E _) (λ j _. answers-stop)))))))))
   path-meets (path-all D t b) i = turn-stop _ _ (fits (omega arith) (omega arith) (omega arith) (next (ident-meets D) (λ name _. adds _ _ (λ longer. eats _ t (not-here _ (elsewhere kind.Ident refl (at-token b))
-      (picks _ tailChain (b .here) (bumps (b .next) answers-stop)))))))
+      (chooses (tailCases e longer) _ (b .here) (bumps (b .next) answers-stop)))))))
 
   -- the statement from its keyword on
   pub import-meets : {p q r : Place} → Tok kind.Import p q → (D : Derives (e .text) Path q r) (from : ℕ) → Meets e d p r (reading (taken p) ⊕ flatCost D) Any (importStmt e from)

@@ -9,7 +9,7 @@ use Rattle.cursor.specs.Rule.{Rule, _>>=_, give, ifSo, more, stop, iterate}
 use Rattle.cursor.specs.Checks.{eat}
 use Rattle.cursor.specs.Records.{add, noKids}
 use Rattle.types.specs.declared.items.Items.{Items as Row}
-use Rattle.types.specs.Patterns.{patternEnd, patternLast, tablePatternPair, patternItem, patternItems, patternRow, patternChain, patternBy, pattern, patterns}
+use Rattle.types.specs.Patterns.{patternEnd, patternLast, tablePatternPair, patternItem, patternItems, patternRow, patternCases, pattern, patterns}
 use Rattle.types.proofs.PatternKeeps.{pattern-items-take}
 use Rattle.parts.specs.Steps.{nameTurn, names, patternTurn, casePatterns}
 use Rattle.parts.proofs.StepTakes.{names-take, case-patterns-take}
@@ -24,7 +24,7 @@ use Rattle.complete.proofs.Records.{records}
 use Rattle.complete.specs.Depth.{need}
 use Rattle.complete.proofs.Meets.{Cost, _⊕_, reading, costOf, flatCost, Any, Goes, Stops, Meets, Reads}
 use Rattle.complete.proofs.MeetsBinds.{answers, answers-more, answers-stop, refuses, fits, deeper, next, turn-more, turn-stop}
-use Rattle.complete.proofs.MeetsSteps.{before-none, bump-meets, eats, eats-not, bumps, expects, picks, picks-none, adds}
+use Rattle.complete.proofs.MeetsSteps.{before-none, bump-meets, eats, eats-not, bumps, expects, chooses, chooses-none, adds}
 use Rattle.complete.proofs.MeetsValues.{close-meets, pair-meets, begins, ident-meets, lit-meets, unlike, lit-free}
 use Rattle.complete.proofs.MeetsLists.{items-meet}
 
@@ -52,11 +52,11 @@ module _ {e : Sheet} {d : ℕ} (inner : Reads e d Pattern (patterns e d)) where
 
   -- parse_pattern
   pattern-meets : {p q : Place} (D : Derives (e .text) Pattern p q) → Meets e d p q (costOf D) Any (pattern e (patterns e d))
-  unfolding pattern patternBy patternRow unlike among costs records need
-  pattern-meets (pattern-name D) = begins (λ from. picks _ (patternChain e) (starts D .stands) (ident-meets D))
-  pattern-meets (pattern-table a D) = fits (omega arith) (omega arith) (omega arith) (begins (λ from. picks _ (patternChain e) (a .here) (bumps (a .next) (next (pairs-list D noKids) (λ i _. close-meets _ _ _ _ _ _)))))
-  pattern-meets (pattern-list a D) = fits (omega arith) (omega arith) (omega arith) (begins (λ from. picks _ (patternChain e) (a .here) (bumps (a .next) (next (patterns-list D noKids) (λ i _. close-meets _ _ _ _ _ _)))))
-  pattern-meets (pattern-literal D) = begins (λ from. picks-none _ (lit-free refl D) (lit-meets D))
+  unfolding pattern patternRow unlike among costs records need
+  pattern-meets (pattern-name D) = begins (λ from. chooses (patternCases e (patterns e d) from) _ (starts D .stands) (ident-meets D))
+  pattern-meets (pattern-table a D) = fits (omega arith) (omega arith) (omega arith) (begins (λ from. chooses (patternCases e (patterns e d) from) _ (a .here) (bumps (a .next) (next (pairs-list D noKids) (λ i _. close-meets _ _ _ _ _ _)))))
+  pattern-meets (pattern-list a D) = fits (omega arith) (omega arith) (omega arith) (begins (λ from. chooses (patternCases e (patterns e d) from) _ (a .here) (bumps (a .next) (next (patterns-list D noKids) (λ i _. close-meets _ _ _ _ _ _)))))
+  pattern-meets (pattern-literal D) = begins (λ from. chooses-none (patternCases e (patterns e d) from) (lit-free refl D) (lit-meets D))
 
 -- with so many levels left
 pub patterns-read : (e : Sheet) (d : ℕ) → Reads e d Pattern (patterns e d)

@@ -1,4 +1,4 @@
--- Operators above a level: parse_expr_precedence.
+-- Operators of a level or higher: parse_expr_precedence.
 use mathlib.Core.Path.{_≡_, refl, sym, ap, _∙_, subst}
 use mathlib.Core.List.{List}
 use mathlib.Core.Bool.{Bool, true, false, true≢false}
@@ -25,6 +25,7 @@ use Rattle.rules.proofs.Takes.{infix-turn-takes}
 use Rattle.grammar.specs.Places.{Place, kindOf, spanOf, startOf, after}
 use Rattle.grammar.specs.Symbols.{Form, Other, Prec, Ops}
 use Rattle.grammar.specs.Derives.{Derives, prec-of, no-op, binary, type-check}
+use Rattle.grammar.proofs.Levels.{some-level}
 use Rattle.sound.proofs.Links.{placeAt, Settled, kind-place}
 use Rattle.sound.proofs.SoundSteps.{range-place}
 use Rattle.sound.proofs.SoundExprs.{formOf}
@@ -62,38 +63,38 @@ module _ (e : Sheet) (from : ℕ) (x : Expr) {p : Place} {word : ℕ} (known : c
 
 module _ {e : Sheet} {d : ℕ} (n : ℕ) (lambda : Bool) (from : ℕ) (x : Expr) where
   -- a turn, by the kind that stands here
-  turned : {p q : Place} {c : Cost} {P : Next Expr → Type 0} {k : ℕ} → kindOf p ≡ k → Meets e d p q c P (infixBy (levels e d) from (n + 1) lambda x k (binaryOf k)) → Meets e d p q c P (infixTurn (levels e d) from (n + 1) lambda x)
+  turned : {p q : Place} {c : Cost} {P : Next Expr → Type 0} {k : ℕ} → kindOf p ≡ k → Meets e d p q c P (infixBy (levels e d) from n lambda x k (binaryOf k)) → Meets e d p q c P (infixTurn (levels e d) from n lambda x)
   unfolding infixTurn
-  turned {q = q} {c = c} {P = P} f y = record { runs = λ s w h z. subst (λ k. EndsAt e d c q P s w (infixBy (levels e d) from (n + 1) lambda x k (binaryOf k) s w)) (sym f ∙ sym (ap kindOf z) ∙ kind-place (e .tokens) s h) (y .runs s w h z) }
+  turned {q = q} {c = c} {P = P} f y = record { runs = λ s w h z. subst (λ k. EndsAt e d c q P s w (infixBy (levels e d) from n lambda x k (binaryOf k) s w)) (sym f ∙ sym (ap kindOf z) ∙ kind-place (e .tokens) s h) (y .runs s w h z) }
 
-  -- it stops where no operator above the level stands, and goes on from behind one
-  stops-by : {f : Form} {p : Place} (k : ℕ) (o : Operator) → levelBy o ≤ n → formOf x ≡ f → Meets e d p p nothing (Stops (λ z. formOf z ≡ f)) (infixBy (levels e d) from (n + 1) lambda x k o)
+  -- it stops where no operator of the level or higher stands, and goes on from behind one
+  stops-by : {f : Form} {p : Place} (k : ℕ) (o : Operator) → levelBy o < n → formOf x ≡ f → Meets e d p p nothing (Stops (λ z. formOf z ≡ f)) (infixBy (levels e d) from n lambda x k o)
   unfolding infixBy
-  stops-by k (operators.Binary op) l i = yes-so _ (lt-ltb (precedenceOf op) (n + 1) (omega arith)) (gives (stops i))
+  stops-by k (operators.Binary op) l i = yes-so _ (lt-ltb (precedenceOf op) n l) (gives (stops i))
   stops-by k operators.Nothing l i = gives (stops i)
 
-  goes-by : {p q : Place} {c : Cost} {P : Next Expr → Type 0} (k : ℕ) (o : Operator) → n < levelBy o → Meets e d p q c P (bump e >> operated (levels e d) from lambda x k (levelBy o)) → Meets e d p q c P (infixBy (levels e d) from (n + 1) lambda x k o)
+  goes-by : {p q : Place} {c : Cost} {P : Next Expr → Type 0} (k : ℕ) (o : Operator) → 0 < n → n ≤ levelBy o → Meets e d p q c P (bump e >> operated (levels e d) from lambda x k (levelBy o)) → Meets e d p q c P (infixBy (levels e d) from n lambda x k o)
   unfolding infixBy
-  goes-by k (operators.Binary op) l y = not-so _ (le-ltb (precedenceOf op) (n + 1) (omega arith)) y
-  goes-by k operators.Nothing l y = absurd (omega arith)
+  goes-by k (operators.Binary op) i l y = not-so _ (le-ltb (precedenceOf op) n l) y
+  goes-by k operators.Nothing i l y = absurd (omega arith)
 
 module _ {e : Sheet} {d : ℕ} (h : Handed e d) where
   -- a right operand that starts one level higher
-  operand-meets : {k : ℕ} {lambda : Bool} {f : Form} {p q : Place} (from : ℕ) (x : Expr) → (k ≡ kind.Is → ⊥) → (D : Derives (e .text) (Prec (levelOf k) lambda f) p q)
+  operand-meets : {k : ℕ} {lambda : Bool} {f : Form} {p q : Place} (from : ℕ) (x : Expr) → (k ≡ kind.Is → ⊥) → (D : Derives (e .text) (Prec (levelOf k + 1) lambda f) p q)
       → Meets e d p q (inside (costOf D) ⊕ building) (Goes (λ z. formOf z ≡ Other)) (operated (levels e d) from lambda x k (levelOf k))
   unfolding operated
   operand-meets {k} from x n D = not-so _ (ne-eqb k kind.Is n) (next (h .precs D) (λ y _. before-none (couple-meets node.Binary from k (linkOf x) (linkOf y)) (λ link _. gives (goes refl))))
 
   -- operators behind an expression
-  operators-meet : {n : ℕ} {lambda : Bool} {f g : Form} {p q : Place} (D : Derives (e .text) (Ops n lambda f g) p q) (from : ℕ) (x : Expr) → formOf x ≡ f → Meets e d p q (costOf D) (λ z. formOf z ≡ g) (iterate e (infixTurn (levels e d) from (n + 1) lambda) x)
+  operators-meet : {n : ℕ} {lambda : Bool} {f g : Form} {p q : Place} (D : Derives (e .text) (Ops n lambda f g) p q) (from : ℕ) (x : Expr) → formOf x ≡ f → Meets e d p q (costOf D) (λ z. formOf z ≡ g) (iterate e (infixTurn (levels e d) from n lambda) x)
   unfolding levelOf operated costs records need
   operators-meet {n} {lambda} (no-op l) from x i = turn-stop _ _ (turned n lambda from x refl (stops-by n lambda from x _ (binaryOf _) l i))
   operators-meet {n} {lambda} (binary {k = k} l j a D E) from x i = fits (omega arith) (omega arith) (omega arith)
-      (turn-more (infix-turn-takes e d from (n + 1) lambda) (turned n lambda from x (a .here) (goes-by n lambda from x k (binaryOf k) l (bumps (a .next) (operand-meets from x j D)))) (λ y o. operators-meet E from y o))
+      (turn-more (infix-turn-takes e d from n lambda) (turned n lambda from x (a .here) (goes-by n lambda from x k (binaryOf k) (some-level E) l (bumps (a .next) (operand-meets from x j D)))) (λ y o. operators-meet E from y o))
   operators-meet {n} {lambda} (type-check l a c b E) from x i = fits (omega arith) (omega arith) (omega arith)
-      (turn-more (infix-turn-takes e d from (n + 1) lambda) (turned n lambda from x (a .here) (goes-by n lambda from x kind.Is (binaryOf kind.Is) l (bumps (a .next) (type-meets e from x c b)))) (λ y o. operators-meet E from y o))
+      (turn-more (infix-turn-takes e d from n lambda) (turned n lambda from x (a .here) (goes-by n lambda from x kind.Is (binaryOf kind.Is) (some-level E) l (bumps (a .next) (type-meets e from x c b)))) (λ y o. operators-meet E from y o))
 
   -- parse_expr_precedence
-  pub precedence-meets : Braces e d → {n : ℕ} {lambda : Bool} {f : Form} {p q : Place} (D : Derives (e .text) (Prec n lambda f) p q) → Meets e d p q (costOf D) (λ x. formOf x ≡ f) (precedence (levels e d) (n + 1) lambda)
+  pub precedence-meets : Braces e d → {n : ℕ} {lambda : Bool} {f : Form} {p q : Place} (D : Derives (e .text) (Prec n lambda f) p q) → Meets e d p q (costOf D) (λ x. formOf x ≡ f) (precedence (levels e d) n lambda)
   unfolding precedence costs records need
   precedence-meets b (prec-of D E) = fits (omega arith) (omega arith) (omega arith) (begins (λ from. next (unaries-meet h b D) (λ x i. operators-meet E from x i)))

@@ -51,7 +51,7 @@ module _ {e : Sheet} {d : ℕ} where
 pub program-meets : (e : Sheet) → length (e .tokens) < 2 ^ 32 → (d : ℕ) (w : World) (f : Follows (e .text) (e .tokens)) → Finds e d f w (program (levels e d) outset w)
 program-meets e few d w f = subst (λ o. Finds e d f w o) (sym (program-is e d w)) (by (meets .runs (settled-at e outset) w (record { settled = calm-settle (e .tokens) 0 }) (first-place e)))
   where
-    meets : Meets e d (before (e .tokens)) (f .end) (sheetCost f) Any (levels e d .body kind.Eof >>= (λ row. programRecord (opening (e .tokens)) row))
+    meets : Meets e d (before (e .tokens)) (f .end) (sheetCost f) Any (levels e d .exprs kind.Eof >>= (λ row. programRecord (opening (e .tokens)) row))
     meets = fits (omega arith) (omega arith) (omega arith) (next (knot-meets e few d .sheets (f .body)) (λ row _. program-record-meets (opening (e .tokens)) row))
 
     by : {o : Out ℕ} → EndsAt e d (sheetCost f) (f .end) Any (settled-at e outset) w o → Finds e d f w o

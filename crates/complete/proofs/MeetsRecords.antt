@@ -1,20 +1,17 @@
 -- The records of expressions over what was read of them: each costs its records, and the answer's form is told where a rule asks for it.
-use mathlib.Core.Bool.{Bool, true, false}
+use mathlib.Core.Bool.{Bool}
 use Prim.Native.Nat.{ℕ, zero, suc}
-use lib.Dec.{eqb}
 use Rattle.cursor.specs.declared.Kids.{Kids}
 use Rattle.cursor.specs.declared.Span.{Span}
 use Rattle.cursor.specs.declared.Ranged.{Ranged}
 use Rattle.cursor.specs.declared.Ranged.the-variants as ranged
 use Rattle.cursor.specs.Sheet.{Sheet}
-use Rattle.cursor.specs.Rule.{Rule}
 use Rattle.types.specs.declared.items.Items.{Items as Row}
 use Rattle.parts.specs.declared.values.Called.{Called}
 use Rattle.parts.specs.declared.values.Expr.{Expr}
 use Rattle.parts.specs.declared.values.Expr.the-variants as exprs
 use Rattle.parts.specs.Values.{memberOf as memberExpr}
-use Rattle.parts.specs.When.{when}
-use Rattle.parts.specs.Records.{couple, rowRecord, listRecord, wrapped, blockRecord, fnRecord, functionRecord, handlerRecord, handlersFlagged, ifRecord, roundRecord, callRecord, memberRecord}
+use Rattle.parts.specs.Records.{couple, rowRecord, listRecord, wrapped, blockRecord, fnRecord, functionRecord, handlerRecord, handlersFlagged, ifRecord, callRecord, memberRecord}
 use Rattle.grammar.specs.Places.{Place}
 use Rattle.grammar.specs.Symbols.{Form, Name, NameMember, Call, Other, memberOf}
 use Rattle.complete.proofs.Meets.{Cost, _⊕_, nothing, building, Any, Goes, goes, Meets}
@@ -76,21 +73,13 @@ module _ {e : Sheet} {d : ℕ} {p : Place} where
   unfolding ifRecord
   if-record-meets from kids link = adds-some _ _ (λ all. close-meets _ from _ _ _ _)
 
-  pub round-record-meets : (from which names : ℕ) (kids : Kids) → Meets e d p p building Any (roundRecord from which names kids)
-  unfolding roundRecord
-  round-record-meets from which names kids = by (eqb which 10) (close-meets _ from _ _ _ _) (close-meets _ from _ _ _ _)
-    where
-      by : (b : Bool) {r t : Rule ℕ} → Meets e d p p building Any r → Meets e d p p building Any t → Meets e d p p building Any (when b r t)
-      by true x y = x
-      by false x y = y
-
   pub call-record-meets : (from : ℕ) (kids : Kids) (lambda : ℕ) → Meets e d p p building (Goes (OfForm Call)) (callRecord from kids lambda)
   unfolding callRecord
   call-record-meets from kids lambda = adds-some _ _ (λ all. before-none (close-meets _ from _ _ _ _) (λ link _. gives (goes a-call)))
 
-  pub member-record-meets : {f : Form} {x : Expr} (from which link : ℕ) → OfForm f x → Meets e d p p building (Goes (OfForm (memberOf f))) (memberRecord from ranged.Nowhere which x link)
+  pub member-record-meets : {f : Form} {x : Expr} (from k link : ℕ) → OfForm f x → Meets e d p p building (Goes (OfForm (memberOf f))) (memberRecord from ranged.Nowhere k x link)
   unfolding memberRecord
-  member-record-meets {f} {x} from which link h = adds _ _ (λ one. adds-some _ _ (λ all. before-none (close-meets _ from _ _ _ _) (λ m _. gives (goes (formed m h)))))
+  member-record-meets {f} {x} from k link h = adds _ _ (λ one. adds-some _ _ (λ all. before-none (close-meets _ from _ _ _ _) (λ m _. gives (goes (formed m h)))))
     where
       formed : {f : Form} {x : Expr} (m : ℕ) → OfForm f x → OfForm (memberOf f) (memberExpr x ranged.Nowhere m)
       formed m a-name = a-name-member
@@ -98,6 +87,6 @@ module _ {e : Sheet} {d : ℕ} {p : Place} where
       formed m a-call = another
       formed m another = another
 
-  pub safe-record-meets : (from : ℕ) (r : Span) (which : ℕ) (x : Expr) (link : ℕ) → Meets e d p p building (Goes (OfForm Other)) (memberRecord from (ranged.At r) which x link)
+  pub safe-record-meets : (from : ℕ) (r : Span) (k : ℕ) (x : Expr) (link : ℕ) → Meets e d p p building (Goes (OfForm Other)) (memberRecord from (ranged.At r) k x link)
   unfolding memberRecord
-  safe-record-meets from r which x link = adds _ _ (λ one. adds-some _ _ (λ all. before-none (close-meets _ from _ _ _ _) (λ m _. gives (goes another))))
+  safe-record-meets from r k x link = adds _ _ (λ one. adds-some _ _ (λ all. before-none (close-meets _ from _ _ _ _) (λ m _. gives (goes another))))

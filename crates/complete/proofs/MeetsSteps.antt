@@ -6,7 +6,7 @@ use Prim.Native.Nat.{ℕ, zero, suc, _+_, _/_, _<_, _≤_}
 use native.Mathlib.Omega.{arith}
 use lib.ListN.{length}
 use lib.Dec.{ltb, eqb}
-use borrow.Author.Tests.{eqb-true, eqb-false, ne-eqb, ltb-true, ltb-false}
+use borrow.Author.Tests.{eqb-true, eqb-false, ltb-true, ltb-false}
 use Rattle.kinds.specs.Number as kind
 use Rattle.cursor.specs.declared.State.{State}
 use Rattle.cursor.specs.declared.Kids.{Kids}
@@ -14,10 +14,11 @@ use Rattle.cursor.specs.declared.Label.{Label}
 use Rattle.cursor.specs.declared.Ranged.{Ranged}
 use Rattle.cursor.specs.declared.Ranged.the-variants as ranged
 use Rattle.cursor.specs.Sheet.{Sheet, count, kindAt}
-use Rattle.cursor.specs.Rule.{World, Out, Rule, _>>=_, _>>_, give, ifSo, iterate}
+use Rattle.cursor.specs.Rule.{World, Out, Rule, _>>=_, _>>_, ifSo, iterate}
 use Rattle.cursor.specs.Tokens.{pastTrivia, eatTrivia, bump, eolTurn, eatEol}
-use Rattle.cursor.specs.Checks.{liveRoom, want, check, eat, unexpected, expect, eatRange, pickFrom, pick}
+use Rattle.cursor.specs.Checks.{liveRoom, want, check, eat, unexpected, expect, eatRange, Case, _⇒_, choose}
 use Rattle.cursor.specs.Records.{append, add, reflag}
+use Rattle.cursor.proofs.Chosen.{kindsOf}
 use Rattle.cursor.proofs.RecordPaths.{roomFor, linked, added, add-is}
 use Rattle.cursor.proofs.TokenPaths.{eol-takes}
 use Rattle.cursor.proofs.Writes.{put-length, write-length}
@@ -29,13 +30,13 @@ use Rattle.sound.proofs.Links.{view, view-settle, view-token, view-past, calm-s
 use Rattle.sound.proofs.SoundSteps.{after-end, range-place}
 use Rattle.complete.proofs.Cost.{takenIn, taken, costs, cost}
 use Rattle.complete.proofs.Meets.{Cost, _⊕_, nothing, reading, building, Any, Goes, Stops, stops, full, few-nodes, few-reads, EndsAt, arrives, short, remains, Meets, Fails, faulty, stays}
-use Rattle.complete.proofs.MeetsBinds.{gives, answers, answers-more, yes-so, not-so, fits, maps, next, turn-more, turn-stop}
+use Rattle.complete.proofs.MeetsBinds.{gives, answers, answers-more, yes-so, not-so, fits, next, turn-more, turn-stop}
 use Rattle.complete.proofs.MeetsFails.{fails-later, fails-fit}
 
--- where a kind stands first in a list; the list's length where it does not
-abbrev pub position : ℕ → List ℕ → ℕ
-position k [] = 0
-position k (j ∷ js) = elim (eqb k j) as (λ _. ℕ) [ true ↦ 0 | false ↦ suc (position k js) ]
+-- the rule that a chain of checks comes to where this kind stands
+abbrev pub ruleFor : {A : Type 0} → ℕ → List (Case A) → Rule A → Rule A
+ruleFor k [] other = other
+ruleFor {A} k ((j ⇒ r) ∷ cases) other = elim (eqb k j) as (λ _. Rule A) [ true ↦ r | false ↦ ruleFor k cases other ]
 
 module _ {e : Sheet} {A : Type 0} {d : ℕ} {c : Cost} {q : Place} {P : A → Type 0} {s : State} {w : World} where
   -- by a test
@@ -126,19 +127,6 @@ module _ {e : Sheet} {d : ℕ} where
     unfolding eatRange
     range-not n = record { runs = λ s w h z. after-none (check-not n) (λ b f. not-so _ f (gives {P = λ r. r ≡ ranged.Nowhere} refl)) .runs s w h z }
 
-  -- a chain of checks answers where the kind of this place stands in it
-  pick-from : {p : Place} (ks : List ℕ) (i : ℕ) → Meets e d p p nothing (λ j. j ≡ i + position (kindOf p) ks) (pickFrom e ks i)
-  unfolding pickFrom
-  pick-from [] i = gives (omega arith)
-  pick-from {p} (k ∷ ks) i = go (eqb (kindOf p) k) refl (pick-from ks (i + 1))
-    where
-      go : (b : Bool) → eqb (kindOf p) k ≡ b → Meets e d p p nothing (λ j. j ≡ i + 1 + position (kindOf p) ks) (pickFrom e ks (i + 1)) → Meets e d p p nothing (λ j. j ≡ i + elim b as (λ _. ℕ) [ true ↦ 0 | false ↦ suc (position (kindOf p) ks) ]) (check e k >>= (λ here. ifSo (give i) (pickFrom e ks (i + 1)) here))
-      go true q x = after-none (check-yes k (record { stands = eqb-true _ _ q })) (λ b f. yes-so _ f (gives (omega arith)))
-      go false q x = after-none (check-not k (record { differs = eqb-false _ _ q })) (λ b f. not-so _ f (maps (λ j h. omega (arith, h)) x))
-
-  pub pick-meets : {p : Place} (ks : List ℕ) → Meets e d p p nothing (λ j. j ≡ position (kindOf p) ks) (pick e ks)
-  pick-meets ks = maps (λ j h. omega (arith, h)) (pick-from ks 0)
-
   -- records: one more, or one more child in a row, or other flags
   pub append-meets : {p : Place} (l : Label) (first : ℕ) → Meets e d p p building Any (append l first)
   unfolding append
@@ -219,18 +207,25 @@ module _ {e : Sheet} {B : Type 0} {d : ℕ} {p v : Place} {c : Cost} {Q : B → 
     pub ranges-not : Not k p → Meets e d p v c Q (f ranged.Nowhere) → Meets e d p v c Q (eatRange e k >>= f)
     ranges-not h x = after-none (range-not k h) (λ r g. rw g x)
 
-  module _ (f : ℕ → Rule B) where
-    -- which of these it is, by the kind that stands here: `position` computes where that is a numeral
-    pub picks : {k : ℕ} (ks : List ℕ) → kindOf p ≡ k → Meets e d p v c Q (f (position k ks)) → Meets e d p v c Q (pick e ks >>= f)
-    picks ks h x = after-none (pick-meets ks) (λ j g. rw (g ∙ ap (λ k. position k ks) h) x)
+  -- a chain of checks comes to the rule for the kind that stands here: `ruleFor` computes where that is a numeral. What is left is written as `_` likewise
+  by-kind : (cases : List (Case B)) (other : Rule B) → Meets e d p v c Q (ruleFor (kindOf p) cases other) → Meets e d p v c Q (choose e cases other)
+  unfolding choose
+  by-kind [] other x = x
+  by-kind ((k ⇒ r) ∷ cases) other x = go (eqb (kindOf p) k) refl (λ y. by-kind cases other y) x
+    where
+      go : (b : Bool) → eqb (kindOf p) k ≡ b → (Meets e d p v c Q (ruleFor (kindOf p) cases other) → Meets e d p v c Q (choose e cases other)) → Meets e d p v c Q (elim b as (λ _. Rule B) [ true ↦ r | false ↦ ruleFor (kindOf p) cases other ])
+          → Meets e d p v c Q (check e k >>= ifSo r (choose e cases other))
+      go true q f x = here _ (record { stands = eqb-true _ _ q }) x
+      go false q f x = not-here _ (record { differs = eqb-false _ _ q }) (f x)
 
-    -- none of these
-    pub picks-none : {ks : List ℕ} → Free ks p → Meets e d p v c Q (f (length ks)) → Meets e d p v c Q (pick e ks >>= f)
-    picks-none {ks} h x = after-none (pick-meets ks) (λ j g. rw (g ∙ nowhere h) x)
-      where
-        nowhere : {ks : List ℕ} → Free ks p → position (kindOf p) ks ≡ length ks
-        nowhere from-none = refl
-        nowhere (from-all {k = k} {ks = ks} n h) = rw (ne-eqb (kindOf p) k (n .differs), position) (ap suc (nowhere h))
+  pub chooses : {k : ℕ} (cases : List (Case B)) (other : Rule B) → kindOf p ≡ k → Meets e d p v c Q (ruleFor k cases other) → Meets e d p v c Q (choose e cases other)
+  chooses cases other h x = by-kind cases other (subst (λ k. Meets e d p v c Q (ruleFor k cases other)) (sym h) x)
+
+  -- none of its kinds
+  pub chooses-none : (cases : List (Case B)) {other : Rule B} → Free (kindsOf cases) p → Meets e d p v c Q other → Meets e d p v c Q (choose e cases other)
+  unfolding choose
+  chooses-none [] from-none x = x
+  chooses-none ((k ⇒ r) ∷ cases) (from-all n h) x = not-here _ n (chooses-none cases h x)
 
   -- one more child in a row
   pub adds : (kids : Kids) (link : ℕ) {f : Kids → Rule B} → ((k : Kids) → Meets e d p v c Q (f k)) → Meets e d p v c Q (add kids link >>= f)

@@ -1,5 +1,6 @@
 -- Statements. At a `fn` a named function is attempted; where the function has no name the attempt fails behind that one token.
 use mathlib.Core.Path.{_≡_, refl}
+use mathlib.Core.List.{[], _∷_}
 use mathlib.Core.Bool.{true, false}
 use Prim.Native.Nat.{ℕ, _+_, _^_, _<_}
 use native.Mathlib.Omega.{arith}
@@ -10,15 +11,15 @@ use Rattle.cursor.specs.declared.Ranged.{Ranged}
 use Rattle.cursor.specs.declared.Ranged.the-variants as ranged
 use Rattle.cursor.specs.Node as node
 use Rattle.cursor.specs.Sheet.{Sheet, rangeAt}
-use Rattle.cursor.specs.Rule.{World, _>>=_}
-use Rattle.cursor.specs.Checks.{pick}
+use Rattle.cursor.specs.Rule.{World}
+use Rattle.cursor.specs.Checks.{choose}
 use Rattle.types.specs.Lits.{identAt, ident}
-use Rattle.rules.specs.Functions.{fnStmt}
-use Rattle.rules.specs.Statements.{stmtChain, gloChain, assign as assignRule, gloBy, glo, plain as plainRule, functionStmt, stmt}
+use Rattle.rules.specs.Functions.{namedFunction}
+use Rattle.rules.specs.Statements.{assign as assignRule, gloAssign, gloCases, glo, stmtCases, plain as plainRule, functionStmt, stmt}
 use Rattle.rules.specs.Levels.{levels}
 use Rattle.grammar.specs.Places.{Place, after, Tok, Here, Not, Free, from-none, from-all}
 use Rattle.grammar.specs.Symbols.{Form, Ident, Stmt, Function, Prec}
-use Rattle.grammar.specs.Derives.{Derives, fn-stmt, import-stmt, effect-stmt, glo-fn, glo-effect, glo-assign, plain, assign, typed-assign, op-assign, unpack, multi}
+use Rattle.grammar.specs.Derives.{Derives, fn-stmt, import-stmt, effect-stmt, glo-fn, glo-effect, glo-assign, expr-stmt, assign, typed-assign, op-assign, unpack, multi}
 use Rattle.grammar.specs.Words.{among}
 use Rattle.grammar.proofs.FirstKinds.{opening-apart}
 use Rattle.grammar.proofs.Tests.{at-token, elsewhere}
@@ -31,7 +32,7 @@ use Rattle.complete.proofs.Leading.{Fns, no-fn, a-fn, prec-fns}
 use Rattle.complete.proofs.Meets.{Cost, _⊕_, nothing, reading, costOf, Any, Meets, FailsAt, Fails}
 use Rattle.complete.proofs.MeetsBinds.{answers, fits, next, kept-attempt}
 use Rattle.complete.proofs.MeetsFails.{fails-first, fails-later, fails-fit, retried}
-use Rattle.complete.proofs.MeetsSteps.{unexpected-fails, expect-meets, expect-fails, bumps, expects, here, not-here, picks, picks-none}
+use Rattle.complete.proofs.MeetsSteps.{unexpected-fails, expect-meets, expect-fails, bumps, expects, here, not-here, chooses, chooses-none}
 use Rattle.complete.proofs.MeetsValues.{start-meets, begins, ident-meets}
 use Rattle.complete.proofs.MeetsTypes.{typed-ident-meets}
 use Rattle.complete.proofs.MeetsParts.{import-meets, effect-meets}
@@ -52,26 +53,26 @@ module _ {e : Sheet} {d : ℕ} {p : Place} where
 module _ {e : Sheet} {d : ℕ} {p : Place} where
   -- an attempt at a named function fails behind `fn` where a parenthesis stands
   nameless-fails : {q : Place} → Tok kind.Fn p q → Here kind.OpenParen q → Fails e d p (reading 1) (functionStmt (levels e d))
-  unfolding functionStmt fnStmt
+  unfolding functionStmt namedFunction
   nameless-fails t o =
       let i = one-spent t refl in
       fails-fit {a = nothing ⊕ (reading (taken p) ⊕ nothing)} (omega (arith, i)) (omega arith) (omega arith) (fails-later start-meets (λ from _. fails-later (expect-meets kind.Fn t) (λ _ _. fails-first _ (ident-fails (elsewhere kind.Ident refl o)))))
 
   -- behind `glo`, whose range is handed on
-  glo-meets : {q r : Place} {c : Cost} (from : ℕ) → after p ≡ q → ((g : Ranged) → Meets e d q r c Any (pick e gloChain >>= gloBy (levels e d) from g)) → Meets e d p r (reading (taken p) ⊕ c) Any (glo (levels e d) from)
+  glo-meets : {q r : Place} {c : Cost} (from : ℕ) → after p ≡ q → ((g : Ranged) → Meets e d q r c Any (choose e (gloCases (levels e d) from g) (gloAssign (levels e d) from))) → Meets e d p r (reading (taken p) ⊕ c) Any (glo (levels e d) from)
   unfolding glo
   glo-meets from t x = record { runs = λ s w h z. bumps t (x (rangeAt (e .tokens) (s .at))) .runs s w h z }
 
   -- a statement that begins with an expression
-  opened : {f : Form} {q u : Place} {c : Cost} (D : Derives (e .text) (Prec 0 true f) p u) → ((from : ℕ) → Meets e d p q c Any (assignRule (levels e d) from)) → Meets e d p q (record { reads = costs D .fn + c .reads; nodes = c .nodes; need = c .need }) Any (stmt (levels e d))
+  opened : {f : Form} {q u : Place} {c : Cost} (D : Derives (e .text) (Prec 1 true f) p u) → ((from : ℕ) → Meets e d p q c Any (assignRule (levels e d) from)) → Meets e d p q (record { reads = costs D .fn + c .reads; nodes = c .nodes; need = c .need }) Any (stmt (levels e d))
   unfolding stmt plainRule among
   opened {q = q} {c = c} D x = by (costs D .fn) (prec-fns D)
     where
-      other : Free stmtChain p
+      other : Free (kind.Import ∷ kind.Effect ∷ kind.Glo ∷ []) p
       other = from-all (opening-apart kind.Import (starts D) refl) (from-all (opening-apart kind.Effect (starts D) refl) (from-all (opening-apart kind.Glo (starts D) refl) from-none))
 
       plainly : Meets e d p q c Any (plainRule (levels e d))
-      plainly = begins (λ from. picks-none _ other (x from))
+      plainly = begins (λ from. chooses-none (stmtCases (levels e d) from) other (x from))
 
       by : (n : ℕ) → Fns p n → Meets e d p q (record { reads = n + c .reads; nodes = c .nodes; need = c .need }) Any (stmt (levels e d))
       by n (no-fn f i) = fits (omega (arith, i)) (omega arith) (omega arith) (not-here _ f plainly)
@@ -80,24 +81,24 @@ module _ {e : Sheet} {d : ℕ} {p : Place} where
 module _ {e : Sheet} {d : ℕ} (h : Handed e d) where
   -- a named function, also behind `glo`
   named-meets : {p q r s : Place} → Tok kind.Fn p q → (D : Derives (e .text) Ident q r) (E : Derives (e .text) (Function false) r s) (from : ℕ) (g : Ranged)
-      → Meets e d p s (record { reads = taken p + cost D + cost E; nodes = records D + records E + 1; need = need E }) Any (fnStmt (levels e d) from g)
-  unfolding fnStmt
+      → Meets e d p s (record { reads = taken p + cost D + cost E; nodes = records D + records E + 1; need = need E }) Any (namedFunction (levels e d) from g)
+  unfolding namedFunction
   named-meets t D E from g = fits (omega arith) (omega arith) (omega arith) (expects t (next (ident-meets D) (λ name _. next (functions-meet h E from) (λ link _. fn-record-meets _ _ _ _))))
 
   module _ (few : length (e .tokens) < 2 ^ 32) where
     -- parse_stmt
     pub stmts-meet : {p q : Place} (D : Derives (e .text) Stmt p q) → Meets e d p q (costOf D) Any (stmt (levels e d))
-    unfolding stmt plainRule functionStmt gloBy costs records need
+    unfolding stmt plainRule functionStmt gloAssign costs records need
     stmts-meet (fn-stmt a D E) = fits (omega arith) (omega arith) (omega arith) (here _ (at-token a) (kept-attempt (begins (λ from. named-meets a D E from ranged.Nowhere)) (λ link _. answers) (plainRule (levels e d))))
-    stmts-meet (import-stmt a D) = fits (omega arith) (omega arith) (omega arith) (not-here _ (elsewhere kind.Fn refl (at-token a)) (begins (λ from. picks _ stmtChain (a .here) (import-meets a D from))))
-    stmts-meet (effect-stmt D) = fits (omega arith) (omega arith) (omega arith) (not-here _ (elsewhere kind.Fn refl (starts D)) (begins (λ from. picks _ stmtChain (starts D .stands) (effect-meets D from ranged.Nowhere))))
+    stmts-meet (import-stmt a D) = fits (omega arith) (omega arith) (omega arith) (not-here _ (elsewhere kind.Fn refl (at-token a)) (begins (λ from. chooses (stmtCases (levels e d) from) _ (a .here) (import-meets a D from))))
+    stmts-meet (effect-stmt D) = fits (omega arith) (omega arith) (omega arith) (not-here _ (elsewhere kind.Fn refl (starts D)) (begins (λ from. chooses (stmtCases (levels e d) from) _ (starts D .stands) (effect-meets D from ranged.Nowhere))))
     stmts-meet (glo-fn a b D E) = fits (omega arith) (omega arith) (omega arith)
-        (not-here _ (elsewhere kind.Fn refl (at-token a)) (begins (λ from. picks _ stmtChain (a .here) (glo-meets from (a .next) (λ g. picks _ gloChain (b .here) (named-meets b D E from g))))))
+        (not-here _ (elsewhere kind.Fn refl (at-token a)) (begins (λ from. chooses (stmtCases (levels e d) from) _ (a .here) (glo-meets from (a .next) (λ g. chooses (gloCases (levels e d) from g) _ (b .here) (named-meets b D E from g))))))
     stmts-meet (glo-effect a D) = fits (omega arith) (omega arith) (omega arith)
-        (not-here _ (elsewhere kind.Fn refl (at-token a)) (begins (λ from. picks _ stmtChain (a .here) (glo-meets from (a .next) (λ g. picks _ gloChain (starts D .stands) (effect-meets D from g))))))
+        (not-here _ (elsewhere kind.Fn refl (at-token a)) (begins (λ from. chooses (stmtCases (levels e d) from) _ (a .here) (glo-meets from (a .next) (λ g. chooses (gloCases (levels e d) from g) _ (starts D .stands) (effect-meets D from g))))))
     stmts-meet (glo-assign a D b E) = fits (omega arith) (omega arith) (omega arith)
-        (not-here _ (elsewhere kind.Fn refl (at-token a)) (begins (λ from. picks _ stmtChain (a .here) (glo-meets from (a .next) (λ g. picks _ gloChain (starts D .stands) (next (typed-ident-meets D) (λ name _. expects b (right-meets h E from node.GloAssign 0 name))))))))
-    stmts-meet (plain D n) = fits (omega arith) (omega arith) (omega arith) (opened D (λ from. plain-meets h few from D n))
+        (not-here _ (elsewhere kind.Fn refl (at-token a)) (begins (λ from. chooses (stmtCases (levels e d) from) _ (a .here) (glo-meets from (a .next) (λ g. chooses (gloCases (levels e d) from g) _ (starts D .stands) (next (typed-ident-meets D) (λ name _. expects b (right-meets h E from node.GloAssign 0 name))))))))
+    stmts-meet (expr-stmt D n) = fits (omega arith) (omega arith) (omega arith) (opened D (λ from. plain-meets h few from D n))
     stmts-meet (assign D f a E) = fits (omega arith) (omega arith) (omega arith) (opened D (λ from. assign-meets h few from D f a E))
     stmts-meet (typed-assign D a T b E) = fits (omega arith) (omega arith) (omega arith) (opened D (λ from. typed-assign-meets h few from D a T b E))
     stmts-meet (op-assign D f c a E) = fits (omega arith) (omega arith) (omega arith) (opened D (λ from. op-assign-meets h few from D f c a E))

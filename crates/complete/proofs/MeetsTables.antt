@@ -21,8 +21,8 @@ use Rattle.rules.specs.Tables.{key, property as propertyRule, item, itemsOf, ta
 use Rattle.rules.specs.Levels.{levels}
 use Rattle.rules.proofs.Takes.{until-turn-takes}
 use Rattle.grammar.specs.Places.{Place, kindOf, Tok, Not}
-use Rattle.grammar.specs.Symbols.{Eols, Until, NoLast, Body, Expr, Key, Property}
-use Rattle.grammar.specs.Derives.{Derives, until-of, items-end, items-final, items-comma, table, block-expr, property, group-key, literal-key}
+use Rattle.grammar.specs.Symbols.{Eols, Until, NoLast, Exprs, Expr, Key, Property}
+use Rattle.grammar.specs.Derives.{Derives, until-of, items-end, items-final, items-comma, table, block-expr, property, paren-key, literal-key}
 use Rattle.grammar.specs.Words.{among}
 use Rattle.grammar.proofs.Tests.{at-token, elsewhere}
 use Rattle.sound.proofs.Links.{placeAt, Settled, kind-place}
@@ -76,7 +76,7 @@ module _ {e : Sheet} {d : ℕ} (h : Handed e d) where
   -- parse_table_key_and_colon
   keys-meet : {p q : Place} (D : Derives (e .text) Key p q) → Meets e d p q (costOf D) Any (key (levels e d))
   unfolding key parenKey litKey costs records need among
-  keys-meet (group-key a D b c) = fits (omega arith) (omega arith) (omega arith) (begins (λ from. eats _ a (next (exprs-meet h D) (λ link _. expects b (colon-meets c from link)))))
+  keys-meet (paren-key a D b c) = fits (omega arith) (omega arith) (omega arith) (begins (λ from. eats _ a (next (exprs-meet h D) (λ link _. expects b (colon-meets c from link)))))
   keys-meet (literal-key D a) = fits (omega arith) (omega arith) (omega arith) (begins (λ from. eats-not _ (apart kind.OpenParen (starts D) refl) (next (lit-meets D) (λ link _. expects a answers))))
 
   -- where no key stands the attempt fails behind what it reads in vain
@@ -119,7 +119,7 @@ module _ {e : Sheet} {d : ℕ} (h : Handed e d) where
   tables-meet a (until-of E (items-comma (property D F) G t I K)) from = fits (omega arith) (omega arith) (omega arith)
       (bumps (a .next) (lines E (eats-not _ (apart kind.CloseBrace (starts D) refl) (begins (λ inside-of. kept-attempt (keys-meet D) (λ first _. table-goes from inside-of first F G t (until-of I K)) (braceBlock (levels e d) from inside-of))))))
 
-  block-exprs-meet : {p q r s : Place} (a : Tok kind.OpenBrace p q) (E : Derives (e .text) Eols q r) (n : Not kind.CloseBrace r) (D : Derives (e .text) (Body kind.CloseBrace) r s) (from : ℕ) → Meets e d p s (costOf (block-expr a E n D)) Any (brace (levels e d) from)
+  block-exprs-meet : {p q r s : Place} (a : Tok kind.OpenBrace p q) (E : Derives (e .text) Eols q r) (n : Not kind.CloseBrace r) (D : Derives (e .text) (Exprs kind.CloseBrace) r s) (from : ℕ) → Meets e d p s (costOf (block-expr a E n D)) Any (brace (levels e d) from)
   unfolding brace tableOrBlock braceBlock blockRecord wrapped costs records need
   block-exprs-meet a E n D from = fits (omega arith) (omega arith) (omega arith)
       (bumps (a .next) (lines E (eats-not _ n (begins (λ inside-of. retried {b = inside (costOf D) ⊕ (building ⊕ building)} _ (key-fails (body-leads E D)) (omega arith) (omega arith) (next (h .bodies D) (λ row _. next (close-meets _ _ _ _ _ _) (λ link _. close-meets _ _ _ _ _ _))))))))

@@ -10,11 +10,11 @@ use Rattle.cursor.specs.Sheet.{Sheet}
 use Rattle.cursor.specs.Rule.{Rule, _>>_, iterate}
 use Rattle.cursor.specs.Checks.{expect}
 use Rattle.cursor.specs.Records.{noKids}
-use Rattle.types.specs.Types.{unionTurn, union as unionOf, type, returns, named, typedIdent, tableTyPair, tableTyOther, typeItem, typeLastKind, typeEnd, typeLastItem, typeLast, typeItems, typeParen, typeTable, typeFunction, typeChain, typeBy, typeAtom, atoms, params, closureParams}
+use Rattle.types.specs.Types.{unionTurn, union as unionOf, type, returns, named, typedIdent, tableTyPair, tableTyOther, typeItem, typeLastKind, typeEnd, typeLastItem, typeLast, typeItems, typeParen, typeTable, typeFunction, typeCases, typeAtom, atoms, params, closureParams}
 use Rattle.types.proofs.TypeKeeps.{union-takes, type-items-take}
 use Rattle.grammar.specs.Places.{Place}
 use Rattle.grammar.specs.Symbols.{Sym, Until, Rest, Ty, TyAtom, Bars, TyPair, Others, Returns, Typed, Params}
-use Rattle.grammar.specs.Derives.{Derives, rest-of, one-type, union, no-bar, a-bar, ty-paren, ty-name, ty-table, ty-function, ty-literal, ty-pair, others, no-type, returned, bare, typed, params-of, closure-params}
+use Rattle.grammar.specs.Derives.{Derives, rest-of, one-type, union, no-bar, a-bar, ty-paren, ty-name, ty-table, ty-function, ty-literal, ty-pair, others, no-type, returned, bare, typed-ident, params-of, closure-params}
 use Rattle.grammar.specs.Words.{among}
 use Rattle.grammar.proofs.Tests.{elsewhere}
 use Rattle.grammar.proofs.FirstKinds.{apart}
@@ -24,7 +24,7 @@ use Rattle.complete.proofs.Records.{records}
 use Rattle.complete.specs.Depth.{need}
 use Rattle.complete.proofs.Meets.{costOf, Any, Meets, Reads}
 use Rattle.complete.proofs.MeetsBinds.{answers, answers-more, answers-stop, refuses, fits, deeper, next, turn-more, turn-stop}
-use Rattle.complete.proofs.MeetsSteps.{before-none, bumps, expects, here, not-here, eats, eats-not, picks, picks-none, adds}
+use Rattle.complete.proofs.MeetsSteps.{before-none, bumps, expects, here, not-here, eats, eats-not, chooses, chooses-none, adds}
 use Rattle.complete.proofs.MeetsValues.{close-meets, pair-meets, begins, adds-some, ident-meets, lit-meets, unlike, lit-free}
 use Rattle.complete.proofs.MeetsLists.{Parted, items-meet}
 
@@ -32,7 +32,7 @@ use Rattle.complete.proofs.MeetsLists.{Parted, items-meet}
 pub typed-meets : {e : Sheet} {d : ℕ} {x : Sym} {ty : Rule ℕ} → Reads e d x ty → {p q : Place} (D : Derives (e .text) (Typed x) p q) → Meets e d p q (costOf D) Any (typedIdent e ty)
 unfolding typedIdent costs records need
 typed-meets ty (bare D n) = fits (omega arith) (omega arith) (omega arith) (begins (λ from. before-none (ident-meets D) (λ name _. eats-not _ n answers)))
-typed-meets ty (typed D t E) = fits (omega arith) (omega arith) (omega arith) (begins (λ from. next (ident-meets D) (λ name _. eats _ t (next (ty .meets E) (λ type _. pair-meets _ _ _ _)))))
+typed-meets ty (typed-ident D t E) = fits (omega arith) (omega arith) (omega arith) (begins (λ from. next (ident-meets D) (λ name _. eats _ t (next (ty .meets E) (λ type _. pair-meets _ _ _ _)))))
 
 module _ {e : Sheet} {d : ℕ} (atom : Reads e d TyAtom (atoms e d)) where
   bars : {p q : Place} (D : Derives (e .text) Bars p q) (kids : Kids) → Meets e d p q (costOf D) Any (iterate e (unionTurn e (atoms e d)) kids)
@@ -105,12 +105,12 @@ module _ {e : Sheet} {d : ℕ} (atom : Reads e d TyAtom (atoms e d)) where
 
   -- parse_type_atom
   atom-meets : {p q : Place} (D : Derives (e .text) TyAtom p q) → Meets e d p q (costOf D) Any (typeAtom e (atoms e d))
-  unfolding typeAtom typeBy typeParen typeTable typeFunction unlike among costs records need
-  atom-meets (ty-paren a D b) = fits (omega arith) (omega arith) (omega arith) (begins (λ from. picks _ (typeChain e) (a .here) (bumps (a .next) (next (type-reads .meets D) (λ t _. expects b (adds _ _ (λ kids. close-meets _ _ _ _ _ _)))))))
-  atom-meets (ty-name D) = fits (omega arith) (omega arith) (omega arith) (begins (λ from. picks _ (typeChain e) (starts D .stands) (ident-meets D)))
-  atom-meets (ty-table a D) = fits (omega arith) (omega arith) (omega arith) (begins (λ from. picks _ (typeChain e) (a .here) (bumps (a .next) (next (pairs-list D noKids) (λ i _. close-meets _ _ _ _ _ _)))))
-  atom-meets (ty-function a D E) = fits (omega arith) (omega arith) (omega arith) (begins (λ from. picks _ (typeChain e) (a .here) (bumps (a .next) (next (types-list D noKids) (λ i _. next (returned-meets E) (λ r _. adds-some _ _ (λ kids. close-meets _ _ _ _ _ _)))))))
-  atom-meets (ty-literal D) = fits (omega arith) (omega arith) (omega arith) (begins (λ from. picks-none _ (lit-free refl D) (lit-meets D)))
+  unfolding typeAtom typeParen typeTable typeFunction unlike among costs records need
+  atom-meets (ty-paren a D b) = fits (omega arith) (omega arith) (omega arith) (begins (λ from. chooses (typeCases e (atoms e d) from) _ (a .here) (bumps (a .next) (next (type-reads .meets D) (λ t _. expects b (adds _ _ (λ kids. close-meets _ _ _ _ _ _)))))))
+  atom-meets (ty-name D) = fits (omega arith) (omega arith) (omega arith) (begins (λ from. chooses (typeCases e (atoms e d) from) _ (starts D .stands) (ident-meets D)))
+  atom-meets (ty-table a D) = fits (omega arith) (omega arith) (omega arith) (begins (λ from. chooses (typeCases e (atoms e d) from) _ (a .here) (bumps (a .next) (next (pairs-list D noKids) (λ i _. close-meets _ _ _ _ _ _)))))
+  atom-meets (ty-function a D E) = fits (omega arith) (omega arith) (omega arith) (begins (λ from. chooses (typeCases e (atoms e d) from) _ (a .here) (bumps (a .next) (next (types-list D noKids) (λ i _. next (returned-meets E) (λ r _. adds-some _ _ (λ kids. close-meets _ _ _ _ _ _)))))))
+  atom-meets (ty-literal D) = fits (omega arith) (omega arith) (omega arith) (begins (λ from. chooses-none (typeCases e (atoms e d) from) (lit-free refl D) (lit-meets D)))
 
 -- with so many levels left
 pub atoms-read : (e : Sheet) (d : ℕ) → Reads e d TyAtom (atoms e d)

@@ -1,5 +1,6 @@
 -- Unary forms and handlers: parse_expr_unary.
 use mathlib.Core.Path.{_≡_, refl}
+use mathlib.Core.List.{[], _∷_}
 use mathlib.Core.Bool.{Bool}
 use Prim.Native.Nat.{ℕ}
 use native.Mathlib.Omega.{arith}
@@ -11,12 +12,12 @@ use Rattle.cursor.specs.Sheet.{Sheet}
 use Rattle.cursor.specs.Rule.{iterate}
 use Rattle.parts.specs.declared.values.Expr.{Expr}
 use Rattle.parts.specs.Values.{linkOf, rowOf}
-use Rattle.rules.specs.Precedence.{unaryChain, handler, handlerTurn, triedBy, tried as triedRule, negated as negatedRule, unary}
+use Rattle.rules.specs.Precedence.{handler, handlerTurn, triedBy, tried as triedRule, unaryOp as negatedRule, unaryCases, unary}
 use Rattle.rules.specs.Levels.{levels}
 use Rattle.rules.proofs.Takes.{handler-turn-takes}
 use Rattle.grammar.specs.Places.{Place, after, Tok, Free, from-none, from-all}
 use Rattle.grammar.specs.Symbols.{Form, Call, Other, Unary, Handler, Handlers, Primary}
-use Rattle.grammar.specs.Derives.{Derives, negated, minus, tried, no-unary, last-handler, more-handlers, handler-of}
+use Rattle.grammar.specs.Derives.{Derives, not-expr, neg-expr, tried, no-unary, last-handler, more-handlers, handler-of}
 use Rattle.grammar.specs.Words.{among}
 use Rattle.grammar.proofs.FirstKinds.{Opens, atoms, opening-apart}
 use Rattle.grammar.proofs.Starts.{starts}
@@ -26,7 +27,7 @@ use Rattle.complete.proofs.Records.{records}
 use Rattle.complete.specs.Depth.{need}
 use Rattle.complete.proofs.Meets.{_⊕_, reading, building, costOf, Any, Meets}
 use Rattle.complete.proofs.MeetsBinds.{gives, answers-more, answers-stop, fits, next, turn-more, turn-stop}
-use Rattle.complete.proofs.MeetsSteps.{after-none, before-none, bumps, expects, here, not-here, picks, picks-none, adds}
+use Rattle.complete.proofs.MeetsSteps.{after-none, before-none, bumps, expects, here, not-here, chooses, chooses-none, adds}
 use Rattle.complete.proofs.MeetsValues.{close-meets, begins, ident-meets}
 use Rattle.complete.proofs.MeetsTypes.{params-meet}
 use Rattle.complete.proofs.MeetsRecords.{OfForm, a-call, handler-record-meets, handlers-flagged-meet}
@@ -34,7 +35,7 @@ use Rattle.complete.proofs.MeetsBlocks.{Handed, Braces, block-meets}
 use Rattle.complete.proofs.MeetsPrimary.{of-form, primaries-meet}
 
 -- no unary operator begins an atom
-unsigned : {p : Place} → Opens atoms p → Free unaryChain p
+unsigned : {p : Place} → Opens atoms p → Free (kind.Not ∷ kind.Sub ∷ kind.Try ∷ []) p
 unfolding among
 unsigned o = from-all (opening-apart kind.Not o refl) (from-all (opening-apart kind.Sub o refl) (from-all (opening-apart kind.Try o refl) from-none))
 
@@ -66,7 +67,7 @@ module _ {e : Sheet} {d : ℕ} (h : Handed e d) where
     -- parse_expr_unary
     pub unaries-meet : {f : Form} {p q : Place} (D : Derives (e .text) (Unary lambda f) p q) → Meets e d p q (costOf D) (λ x. formOf x ≡ f) (unary (levels e d) lambda)
     unfolding unary costs records need
-    unaries-meet (negated t D) = fits (omega arith) (omega arith) (omega arith) (begins (λ from. picks _ unaryChain (t .here) (negated-meets from (t .next) D)))
-    unaries-meet (minus t D) = fits (omega arith) (omega arith) (omega arith) (begins (λ from. picks _ unaryChain (t .here) (negated-meets from (t .next) D)))
-    unaries-meet (tried t D E) = fits (omega arith) (omega arith) (omega arith) (begins (λ from. picks _ unaryChain (t .here) (tried-meets t D E)))
-    unaries-meet (no-unary D) = fits (omega arith) (omega arith) (omega arith) (begins (λ from. picks-none _ (unsigned (starts D)) (primaries-meet h b D)))
+    unaries-meet (not-expr t D) = fits (omega arith) (omega arith) (omega arith) (begins (λ from. chooses (unaryCases (levels e d) from lambda) _ (t .here) (negated-meets from (t .next) D)))
+    unaries-meet (neg-expr t D) = fits (omega arith) (omega arith) (omega arith) (begins (λ from. chooses (unaryCases (levels e d) from lambda) _ (t .here) (negated-meets from (t .next) D)))
+    unaries-meet (tried t D E) = fits (omega arith) (omega arith) (omega arith) (begins (λ from. chooses (unaryCases (levels e d) from lambda) _ (t .here) (tried-meets t D E)))
+    unaries-meet (no-unary D) = fits (omega arith) (omega arith) (omega arith) (begins (λ from. chooses-none (unaryCases (levels e d) from lambda) (unsigned (starts D)) (primaries-meet h b D)))

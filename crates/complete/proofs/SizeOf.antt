@@ -87,7 +87,7 @@ grows (by.others a d b c e) x so = under (grows d 0 blank ▹ also (grows e 0 bl
 grows (by.no-type h) x so = still
 grows (by.returned a d) x so = grows d 0 blank
 grows (by.bare d h) x so = grows d 0 blank
-grows (by.typed {x = y} d a e) x so = under (grows d 0 blank ▹ also (begun y (grows e 0 blank)))
+grows (by.typed-ident {x = y} d a e) x so = under (grows d 0 blank ▹ also (begun y (grows e 0 blank)))
 grows (by.params-of a d) x so = grows d x so
 grows (by.closure-params a d) x so = grows d x so
 -- patterns
@@ -97,7 +97,7 @@ grows (by.pattern-list a d) x so = under (grows d 0 blank)
 grows (by.pattern-literal d) x so = grows d 0 blank
 grows (by.pattern-pair d a e) x so = under (grows d 0 blank ▹ also (grows e 0 blank))
 -- statements in a row
-grows (by.body-of a d) x so = grows d x so
+grows (by.exprs-of a d) x so = grows d x so
 grows (by.no-stmt a) x so = still
 grows (by.last-stmt d a) x so = also (grows d 0 blank)
 grows (by.a-line d a b e) x so = also (grows d 0 blank) ▹ grows e x (more so (shape d 0 blank))
@@ -119,7 +119,7 @@ grows (by.path-items d a b e) x so = under (also (grows d 0 blank) ▹ also (gro
 grows (by.path-all d a b) x so = summed (omega arith) (under (also (grows d 0 blank) ▹ also still))
 grows (by.item-alone d h) x so = under (grows d 0 blank)
 grows (by.item-as d a e) x so = under (grows d 0 blank ▹ also (grows e 0 blank))
-grows (by.plain d h) x so = grows d 0 blank
+grows (by.expr-stmt d h) x so = grows d 0 blank
 grows (by.assign d f a e) x so = under (grows d 0 blank ▹ also (grows e 0 blank))
 grows (by.typed-assign d a e b f) x so = under (under (grows d 0 blank ▹ also (grows e 0 blank)) ▹ also (grows f 0 blank))
 grows (by.op-assign d f c a e) x so = under (grows d 0 blank ▹ also (grows e 0 blank))
@@ -135,8 +135,8 @@ grows (by.prec-of d e) x so = grows d 0 blank ▹ grows e _ (shape d 0 blank)
 grows (by.no-op h) x so = still
 grows (by.binary l h a d e) x so = under (also (grows d 0 blank)) ▹ grows e x _
 grows (by.type-check l a c b e) x so = under still ▹ grows e x _
-grows (by.negated a d) x so = under (grows d 0 blank)
-grows (by.minus a d) x so = under (grows d 0 blank)
+grows (by.not-expr a d) x so = under (grows d 0 blank)
+grows (by.neg-expr a d) x so = under (grows d 0 blank)
 grows (by.tried a d e) x so = handlers-join (shape e 0 blank) (one-primary d 0 blank) (grows d 0 blank) (grows e 0 blank)
 grows (by.no-unary d) x so = grows d 0 blank
 grows (by.last-handler d h) x so = also (grows d 0 blank)
@@ -157,7 +157,7 @@ grows (by.bracket-meta a b c) x so = still
 grows (by.dot-meta a b) x so = still
 grows (by.double-colon-meta a b) x so = still
 -- atoms
-grows (by.group a d b) x so = under (grows d 0 blank)
+grows (by.paren-expr a d b) x so = under (grows d 0 blank)
 grows (by.name d) x so = grows d 0 blank
 grows (by.table a d) x so = under (grows d 0 blank)
 grows (by.block-expr a e h d) x so = summed (omega arith) (under (under (grows d 0 blank)))
@@ -186,7 +186,7 @@ grows (by.last-pattern d h) x so = also (grows d 0 blank)
 grows (by.more-patterns d a e) x so = also (grows d 0 blank) ▹ grows e x (more so (shape d 0 blank))
 -- the properties of a table
 grows (by.property d e) x so = under (grows d 0 blank ▹ also (grows e 0 blank))
-grows (by.group-key a d b c) x so = under (grows d 0 blank)
+grows (by.paren-key a d b c) x so = under (grows d 0 blank)
 grows (by.literal-key d a) x so = grows d 0 blank
 
 -- where y becomes a value by itself, `from` gives nothing, so that the size is the records alone

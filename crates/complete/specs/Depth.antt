@@ -28,7 +28,7 @@ entered symbol.Returns n = n
 entered (symbol.Typed x) n = n
 entered symbol.Pattern n = suc n
 entered symbol.PatternPair n = n
-entered (symbol.Body end) n = n
+entered (symbol.Exprs end) n = n
 entered (symbol.Stmts end) n = n
 entered symbol.Block n = n
 entered symbol.Stmt n = n
@@ -87,7 +87,7 @@ need (by.others a d b c e) = max (need d) (need e)
 need (by.no-type h) = 0
 need (by.returned a d) = need d
 need (by.bare d h) = 0
-need (by.typed {x = x} d a e) = entered x (need e)
+need (by.typed-ident {x = x} d a e) = entered x (need e)
 need (by.params-of a d) = need d
 need (by.closure-params a d) = need d
 -- patterns
@@ -97,7 +97,7 @@ need (by.pattern-list a d) = need d
 need (by.pattern-literal d) = 0
 need (by.pattern-pair d a e) = suc (need e)
 -- statements in a row
-need (by.body-of a d) = need d
+need (by.exprs-of a d) = need d
 need (by.no-stmt a) = 0
 need (by.last-stmt d a) = need d
 need (by.a-line d a b e) = max (need d) (need e)
@@ -119,7 +119,7 @@ need (by.path-items d a b e) = 0
 need (by.path-all d a b) = 0
 need (by.item-alone d h) = 0
 need (by.item-as d a e) = 0
-need (by.plain d h) = suc (need d)
+need (by.expr-stmt d h) = suc (need d)
 need (by.assign d f a e) = max (suc (need d)) (need e)
 need (by.typed-assign d a e b f) = max (max (suc (need d)) (need e)) (need f)
 need (by.op-assign d f c a e) = max (suc (need d)) (need e)
@@ -135,8 +135,8 @@ need (by.prec-of d e) = max (need d) (need e)
 need (by.no-op h) = 0
 need (by.binary l h a d e) = max (suc (need d)) (need e)
 need (by.type-check l a c b e) = need e
-need (by.negated a d) = need d
-need (by.minus a d) = need d
+need (by.not-expr a d) = need d
+need (by.neg-expr a d) = need d
 need (by.tried a d e) = max (need d) (need e)
 need (by.no-unary d) = need d
 need (by.last-handler d h) = need d
@@ -157,7 +157,7 @@ need (by.bracket-meta a b c) = 0
 need (by.dot-meta a b) = 0
 need (by.double-colon-meta a b) = 0
 -- atoms
-need (by.group a d b) = need d
+need (by.paren-expr a d b) = need d
 need (by.name d) = 0
 need (by.table a d) = need d
 need (by.block-expr a e h d) = suc (need d)
@@ -186,5 +186,5 @@ need (by.last-pattern d h) = suc (need d)
 need (by.more-patterns d a e) = max (suc (need d)) (need e)
 -- the properties of a table
 need (by.property d e) = max (need d) (need e)
-need (by.group-key a d b c) = need d
+need (by.paren-key a d b c) = need d
 need (by.literal-key d a) = 0

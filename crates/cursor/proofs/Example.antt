@@ -11,7 +11,7 @@ use Rattle.cursor.specs.declared.Label.{Label}
 use Rattle.cursor.specs.Rule.{World, done, Rule, _>>=_, _>>_, give, ifSo, more, stop, Turn, iterate}
 use Rattle.cursor.specs.Sheet.{Sheet}
 use Rattle.cursor.specs.Checks.{eat, expect, unexpected}
-use Rattle.cursor.specs.Attempts.{attempt, recover}
+use Rattle.cursor.specs.Attempts.{tryParse, recover}
 use Rattle.cursor.specs.Records.{append, add, reflag, noKids}
 use Rattle.cursor.specs.Tree.{none, node, join, tree}
 use Rattle.cursor.proofs.Ends.{Ends, well, Any, at-done}
@@ -76,7 +76,7 @@ module _ (name call handler : Label) where
 
   -- an attempt, and a recovery where it is undone
   unfoldable pub tried : Sheet → Rule ℕ
-  tried e = attempt (expect e kind.Ident) (λ _. append name 0) (recover (expect e kind.Int) (λ _. append call 0) (unexpected e))
+  tried e = tryParse (expect e kind.Ident) (λ _. append name 0) (recover (expect e kind.Int) (λ _. append call 0) (unexpected e))
 
   pub tried-keeps : {m : Mark} (e : Sheet) → Keeps m (Fresh m) (tried e)
   unfolding tried

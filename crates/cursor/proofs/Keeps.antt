@@ -14,7 +14,7 @@ use Rattle.cursor.specs.Sheet.{Sheet}
 use Rattle.cursor.specs.Rule.{World, Out, Rule, _>>=_, _>>_, give, refuse, ifSo, Next, more, stop, Turn, next, turns, iterate}
 use Rattle.cursor.specs.Tokens.{rewind}
 use Rattle.cursor.specs.Records.{withNodes}
-use Rattle.cursor.specs.Attempts.{attempt}
+use Rattle.cursor.specs.Attempts.{tryParse}
 use Rattle.cursor.proofs.Ends.{Ends, well, cut, then, either, weaken}
 use Rattle.cursor.proofs.Finished.{Agree}
 
@@ -170,8 +170,8 @@ module _ {A B : Type 0} {m : Mark} {G : A → Type 0} {H : B → Type 0} where
   thens x y = binds x (λ a g. y)
 
   -- an attempt: the other rule begins where the attempt did
-  pub attempts : {r : Rule A} {k : A → Rule B} {back : Rule B} → Keeps m G r → ((a : A) → G a → Keeps m H (k a)) → Keeps m H back → Keeps m H (attempt r k back)
-  unfolding attempt rewind
+  pub attempts : {r : Rule A} {k : A → Rule B} {back : Rule B} → Keeps m G r → ((a : A) → G a → Keeps m H (k a)) → Keeps m H back → Keeps m H (tryParse r k back)
+  unfolding tryParse rewind
   attempts x y z = record {
     ends = λ s w h. either (x .ends s w h)
         (λ s1 w1 a p. earlier (p .0) (y a (p .1) .ends s1 w1 (stands-later h (p .0 .later))))

@@ -16,13 +16,14 @@ use Rattle.cursor.specs.Sheet.{Sheet, count, kindAt}
 use Rattle.cursor.specs.Buffer.{put, copy}
 use Rattle.cursor.specs.Rule.{World, Rule}
 use Rattle.cursor.specs.Tokens.{eatTrivia, bump, eolTurn, eatEol}
-use Rattle.cursor.specs.Checks.{liveRoom, want, check, eat, expect, eatRange, unexpected, pickFrom}
+use Rattle.cursor.specs.Checks.{liveRoom, want, check, eat, expect, eatRange, unexpected, Case, _⇒_, choose}
 use Rattle.cursor.specs.Records.{withNodes, append, add, reflag, listLength, writeError, log}
 use Rattle.cursor.specs.Attempts.{unbuilt, recover}
 use Rattle.cursor.proofs.Ends.{well, ill, cut, branch, either}
 use Rattle.cursor.proofs.TokenPaths.{past-ge}
 use Rattle.cursor.proofs.Writes.{put-length, put-below, put-agree, write-agree, write-length}
 use Rattle.cursor.proofs.RecordPaths.{roomFor, linked, add-is}
+use Rattle.cursor.proofs.Chosen.{Every, all, _&_}
 use Rattle.cursor.proofs.Keeps.{later, later-refl, Mark, markBehind, ground, stands-later, Same, same-refl, same-trans, Kept, kept-refl, kept-nodes, went-refl, earlier, Keeps, Plain, gives, ifs, binds, thens, Nexts, loops}
 
 module _ {m : Mark} where
@@ -71,10 +72,11 @@ module _ {m : Mark} (e : Sheet) where
   unfolding eatRange
   eat-range-keeps k = record { ends = λ s w h. binds (check-keeps k) (λ here _. ifs here (thens bump-keeps (gives tt)) (gives tt)) .ends s w h }
 
-  pub pick-keeps : (ks : List ℕ) (i : ℕ) → Keeps m Plain (pickFrom e ks i)
-  unfolding pickFrom
-  pick-keeps [] i = gives tt
-  pick-keeps (k ∷ ks) i = binds (check-keeps k) (λ here _. ifs here (gives tt) (pick-keeps ks (i + 1)))
+  -- a chain of checks keeps what all its ways keep
+  pub chooses : {A : Type 0} {G : A → Type 0} (cases : List (Case A)) {other : Rule A} → Every (Keeps m G) cases → Keeps m G other → Keeps m G (choose e cases other)
+  unfolding choose
+  chooses [] all x = x
+  chooses ((k ⇒ r) ∷ cases) (h & hs) x = binds (check-keeps k) (λ here _. ifs here h (chooses cases hs x))
 
   pub eat-eol-keeps : Keeps m Plain (eatEol e)
   unfolding eatEol

@@ -1,5 +1,6 @@
 pub mod CheckPaths
 pub mod ChainPaths
+pub mod Chosen
 pub mod Ends
 pub mod Failures
 pub mod Loops

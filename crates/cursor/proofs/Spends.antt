@@ -9,7 +9,7 @@ use Rattle.cursor.specs.Sheet.{Sheet, count}
 use Rattle.cursor.specs.declared.Fault.{Fault}
 use Rattle.cursor.specs.Rule.{World, Out, bind, Rule, _>>=_, orElse, give, ifSo, Next, more, stop, Turn}
 use Rattle.cursor.specs.Tokens.{rewind}
-use Rattle.cursor.specs.Attempts.{attempt, unbuilt, recover}
+use Rattle.cursor.specs.Attempts.{tryParse, unbuilt, recover}
 use Rattle.cursor.proofs.Ends.{Ends, well, ill, cut, Any, then, weaken, both}
 use Rattle.cursor.proofs.Loops.{left, Goes, on, off, Takes}
 use Rattle.cursor.proofs.Keeps.{ground, ground-stands, Keeps, Plain}
@@ -91,8 +91,8 @@ instead k cut x = cut
 
 module _ {A B : Type 0} {e : Sheet} {W : B → Type 0} {G : A → Type 0} {r : Rule A} {back : Rule B} (k : A → Rule B) (keeps : Keeps ground G r) (kept : Spends e W (r >>= k)) (other : Spends e W back) where
   -- an attempt that takes a token where it is kept; where it is undone the other rule has to
-  pub attempt-spends : Spends e W (attempt r k back)
-  unfolding attempt rewind
+  pub attempt-spends : Spends e W (tryParse r k back)
+  unfolding tryParse rewind
   attempt-spends = record { ends = λ s w. instead (λ s1 w1 a. k a s1 w1) (weaken (keeps .ends s w (ground-stands s)) (λ _ _ _ _. tt) (λ s1 w1 f p. other .ends _ w1)) (kept .ends s w) }
 
   -- recovery likewise: the other rule begins where the first one failed

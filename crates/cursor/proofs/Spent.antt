@@ -2,9 +2,8 @@
 use mathlib.Core.Path.{_≡_, refl, sym, _∙_}
 use mathlib.Core.List.{List, [], _∷_}
 use mathlib.Core.Bool.{Bool, true, false}
-use Prim.Native.Nat.{ℕ, _+_, _/_, _<_, _≤_}
+use Prim.Native.Nat.{ℕ, _+_, _/_, _<_}
 use native.Mathlib.Omega.{arith}
-use native.Mathlib.Decide.{decLt}
 use lib.Dec.{ltb, eqb}
 use lib.ListN.{length}
 use borrow.Author.Tests.{eqb-true, eqb-false, ltb-false}
@@ -13,9 +12,10 @@ use Rattle.cursor.specs.declared.State.{State}
 use Rattle.cursor.specs.declared.Ranged.{Ranged}
 use Rattle.cursor.specs.declared.Ranged.the-variants as ranged
 use Rattle.cursor.specs.Sheet.{Sheet, count, kindAt}
-use Rattle.cursor.specs.Rule.{World, Out, Rule, _>>=_, give, ifSo}
+use Rattle.cursor.specs.Rule.{World, Out, Rule, _>>=_, ifSo}
 use Rattle.cursor.specs.Tokens.{bump}
-use Rattle.cursor.specs.Checks.{liveRoom, want, check, eat, expect, eatRange, unexpected, pickFrom, pick}
+use Rattle.cursor.specs.Checks.{liveRoom, want, check, eat, expect, eatRange, unexpected, Case, _⇒_, choose}
+use Rattle.cursor.proofs.Chosen.{kindsOf, Every, all, _&_}
 use Rattle.cursor.proofs.Ends.{Ends, well, ill, cut, Any, branch, then, weaken}
 use Rattle.cursor.proofs.Loops.{left}
 use Rattle.cursor.proofs.TokenPaths.{there, past-ge, bump-takes}
@@ -61,22 +61,6 @@ no-eof k ks = by (eqb k kind.Eof)
     by true n = let z : _≡_ {A = ℕ} 0 1 = cc in absurd (omega arith)
     by false n = (refl, n)
 
--- a chain of n tests only looked, and where it answered a place below n a token stands here
-pub record Picks (e : Sheet) (s : State) (n : ℕ) (s1 : State) (w1 : World) (j : ℕ) : Type 0 where
-  pub at : s1 .at ≡ s .at
-  pub le : j ≤ n
-  pub here : j < n → s .at < count (e .tokens)
-
-module _ (e : Sheet) where
-  picked : (k : ℕ) (ks : List ℕ) (i : ℕ) (s s1 : State) (w1 : World) (b : Bool) → s1 .at ≡ s .at → (Holds b → s .at < count (e .tokens)) → Ends (Picks e s1 (i + 1 + length ks)) Any (pickFrom e ks (i + 1) s1 w1) → Ends (Picks e s (i + length (k ∷ ks))) Any (ifSo (give i) (pickFrom e ks (i + 1)) b s1 w1)
-  picked k ks i s s1 w1 true q f x = well {a = i} (record { at = q; le = omega arith; here = λ _. f tt })
-  picked k ks i s s1 w1 false q f x = weaken x (λ s2 w2 j p. record { at = p .at ∙ q; le = let l = p .le in omega arith; here = λ h. let z = p .here (omega arith) in omega arith }) (λ _ _ _ _. tt)
-
-  pub pick-looks : (ks : List ℕ) (i : ℕ) → noEof ks ≡ true → (s : State) (w : World) → Ends (Picks e s (i + length ks)) Any (pickFrom e ks i s w)
-  unfolding pickFrom
-  pick-looks [] i n s w = well {a = i} (record { at = refl; le = omega arith; here = λ x. absurd (omega arith) })
-  pick-looks (k ∷ ks) i n s w = let h = no-eof k ks n in then (check-looks e k (h .0) s w) (λ _ _ _ _. tt) (λ s1 w1 b f. picked k ks i s s1 w1 b (f .0) (f .1) (pick-looks ks (i + 1) (h .1) s1 w1))
-
 -- from where a rule only looked
 looked : {A : Type 0} {W : A → Type 0} {o : Out A} (e : Sheet) (s s1 : State) → s1 .at ≡ s .at → Ends (λ s2 _ a. W a → left e s2 < left e s1) Any o → Ends (λ s2 _ a. W a → left e s2 < left e s) Any o
 looked e s s1 q x = weaken x (λ s2 w2 b f o. let z = f o in omega arith) (λ _ _ _ _. tt)
@@ -90,13 +74,11 @@ module _ {A : Type 0} {e : Sheet} {W : A → Type 0} where
       by s s1 w1 true l f = let h = f tt in x .ends s1 w1 (omega arith)
       by s s1 w1 false l f = y .ends s1 w1
 
-  -- the same of a chain of tests
-  pub pick-spends : {k : ℕ → Rule A} (ks : List ℕ) → noEof ks ≡ true → ((i : ℕ) → i < length ks → Feeds e W (k i)) → Spends e W (k (length ks)) → Spends e W (pick e ks >>= k)
-  pick-spends {k} ks n x y = record { ends = λ s w. then (pick-looks e ks 0 n s w) (λ _ _ _ _. tt) (λ s1 w1 j p. looked e s s1 (p .at) (by s s1 w1 j p (decLt j (length ks)))) }
-    where
-      by : (s s1 : State) (w1 : World) (j : ℕ) → Picks e s (0 + length ks) s1 w1 j → Dec (j < length ks) → Ends (λ s2 _ a. W a → left e s2 < left e s1) Any (k j s1 w1)
-      by s s1 w1 j p (yes h) = let z = p .here (omega arith) in let q = p .at in x j h .ends s1 w1 (omega arith)
-      by s s1 w1 j p (no h) = let q : j ≡ length ks = let l = p .le in omega arith in rw q (y .ends s1 w1)
+  -- the same of a chain of checks
+  pub choose-spends : (cases : List (Case A)) {other : Rule A} → noEof (kindsOf cases) ≡ true → Every (Feeds e W) cases → Spends e W other → Spends e W (choose e cases other)
+  unfolding choose
+  choose-spends [] n all y = y
+  choose-spends ((k ⇒ r) ∷ cases) n (x & xs) y = let h = no-eof k (kindsOf cases) n in check-spends k (h .0) x (choose-spends cases (h .1) xs y)
 
   pub unexpected-spends : Spends e W (unexpected e)
   unfolding unexpected

@@ -9,6 +9,7 @@ use Rattle.cursor.specs.declared.Fault.{Fault}
 use Rattle.cursor.specs.declared.Span.{Span}
 use Rattle.cursor.specs.declared.Ranged.{Ranged}
 use Rattle.cursor.specs.declared.Ranged.the-variants as ranged
+use Rattle.cursor.specs.Layout.{UNEXPECTED}
 use Rattle.cursor.specs.Sheet.{Sheet, kindAt, rangeAt}
 use Rattle.cursor.specs.Rule.{fault, refusal, refused, Out, done, failed, Rule, _>>=_, _>>_, give, ifSo}
 use Rattle.cursor.specs.Buffer.{put}
@@ -69,7 +70,7 @@ foundAt ranged.Nowhere prev = record { start = prev; end = prev }
 
 -- the error of an unexpected token: the live list is what was expected
 unfoldable pub unexpectedAt : Sheet → State → Fault
-unexpectedAt e s = record { class = 0; found = kindAt (e .tokens) (s .at); span = foundAt (rangeAt (e .tokens) (s .at)) (s .prev); listed = 1 }
+unexpectedAt e s = record { class = UNEXPECTED; found = kindAt (e .tokens) (s .at); span = foundAt (rangeAt (e .tokens) (s .at)) (s .prev); listed = 1 }
 
 unfoldable pub unexpected : {A : Type 0} → Sheet → Rule A
 unexpected e s w = failed (fault s w (unexpectedAt e s))
@@ -89,7 +90,21 @@ eatRange e k s w = (do
     give (rangeAt (e .tokens) (s .at)))
       (give ranged.Nowhere) here) s w
 
--- a chain of checks: the place of the first kind that stands here, from i on; where none does, the chain's length
+-- one way of a chain of checks: the kind that has to stand here, and the rule for it
+infix 68 _⇒_
+pub data Case (A : Type 0) : Type 0 where
+  _⇒_ : ℕ → Rule A → Case A
+
+-- a chain of checks, the Rust's `if self.check(A) { .. } else if self.check(B) { .. } else { .. }`: the rule of the first kind that stands here, and where
+-- none does the other one
+unfoldable pub choose : {A : Type 0} → Sheet → List (Case A) → Rule A → Rule A
+choose e [] other = other
+choose e ((k ⇒ r) ∷ cases) other = do
+  here ← check e k
+  ifSo r (choose e cases other) here
+
+-- what the code's `pick` answers, which goes through such a chain at once: the place of the first kind that stands here, from i on; where none does, the chain's
+-- length. No rule goes by it; that a rule by kinds and the code's way by places are the same is `chosen` (proofs/Chosen.antt)
 unfoldable pub pickFrom : Sheet → List ℕ → ℕ → Rule ℕ
 pickFrom e [] i = give i
 pickFrom e (k ∷ ks) i = do

@@ -38,6 +38,32 @@ cell i k = nodeWords * i + k
 abbrev pub errorWords : ℕ
 errorWords = 6
 
+abbrev pub CLASS : ℕ
+CLASS = 0
+
+-- what CLASS says: an unexpected token, or an integer with a fault
+abbrev pub UNEXPECTED : ℕ
+UNEXPECTED = 0
+
+abbrev pub FAULTY-INT : ℕ
+FAULTY-INT = 1
+
+abbrev pub FOUND : ℕ
+FOUND = 1
+
+abbrev pub ERROR-START : ℕ
+ERROR-START = 2
+
+abbrev pub ERROR-END : ℕ
+ERROR-END = 3
+
+abbrev pub KINDS-FROM : ℕ
+KINDS-FROM = 4
+
+abbrev pub KINDS-COUNT : ℕ
+KINDS-COUNT = 5
+
+-- where a word of an error record stands in its buffer
 abbrev pub errorCell : ℕ → ℕ → ℕ
 errorCell i k = errorWords * i + k
 

@@ -1,5 +1,9 @@
--- The kinds of node records by name, as docs/LAYOUT.md numbers them, for rules to name one. 0 is no record.
+-- The kinds of node records by name, as docs/LAYOUT.md numbers them, for rules to name one.
 use Prim.Native.Nat.{ℕ}
+
+-- no record
+abbrev pub None : ℕ
+None = 0
 
 abbrev pub Null : ℕ
 Null = 1

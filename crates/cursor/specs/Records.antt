@@ -8,7 +8,7 @@ use Rattle.cursor.specs.declared.State.{State}
 use Rattle.cursor.specs.declared.Fault.{Fault}
 use Rattle.cursor.specs.declared.Kids.{Kids}
 use Rattle.cursor.specs.declared.Label.{Label}
-use Rattle.cursor.specs.Layout.{nodeWords, KIND, START, END, FIRST, NEXT, ONE, TWO, FLAGS, cell, errorWords, errorCell, nodeLimit, errorLimit, expectedLimit}
+use Rattle.cursor.specs.Layout.{nodeWords, KIND, START, END, FIRST, NEXT, ONE, TWO, FLAGS, cell, errorWords, CLASS, FOUND, ERROR-START, ERROR-END, KINDS-FROM, KINDS-COUNT, errorCell, nodeLimit, errorLimit, expectedLimit}
 use Rattle.cursor.specs.Rule.{World, refusal, refused, Out, done, failed, Rule}
 use Rattle.cursor.specs.Buffer.{put, copy}
 use Rattle.cursor.specs.Checks.{liveRoom}
@@ -37,9 +37,13 @@ append l first s w = elim (ltb (s .nodes) (min (length (w .nodes) / nodeWords) n
   | false ↦ failed (refused (refusal 7))
 ]
 
+-- the link that leads to no record
+abbrev pub noLink : ℕ
+noLink = 0
+
 -- a row with no child yet
 abbrev pub noKids : Kids
-noKids = record { first = 0; last = 0; count = 0 }
+noKids = record { first = noLink; last = noLink; count = 0 }
 
 -- one more child at the end of a row
 unfoldable pub add : Kids → ℕ → Rule Kids
@@ -64,7 +68,7 @@ listLength f s = cond (eqb (f .listed) 1) (min (s .live) liveRoom) 0
 -- all six words of error record i, whose n expected kinds start at a place of the expected buffer
 unfoldable pub writeError : List ℕ → ℕ → Fault → ℕ → ℕ → List ℕ
 writeError xs i f from n =
-    put (put (put (put (put (put xs (errorCell i 0) (f .class)) (errorCell i 1) (f .found)) (errorCell i 2) (f .span .start)) (errorCell i 3) (f .span .end)) (errorCell i 4) from) (errorCell i 5) n
+    put (put (put (put (put (put xs (errorCell i CLASS) (f .class)) (errorCell i FOUND) (f .found)) (errorCell i ERROR-START) (f .span .start)) (errorCell i ERROR-END) (f .span .end)) (errorCell i KINDS-FROM) from) (errorCell i KINDS-COUNT) n
 
 -- an error record, with so many kinds of the live list in the expected buffer
 abbrev pub logged : Fault → ℕ → State → World → World

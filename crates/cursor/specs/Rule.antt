@@ -84,7 +84,9 @@ abbrev pub next : {A : Type 0} → (A → Rule A) → Next A → Rule A
 next r (more a) s w = r a s w
 next r (stop a) s w = done s w a
 
--- at most so many turns
+-- at most so many turns. With none left it answers as after a turn that stops, which never arises: `iterate` gives one turn more than
+-- tokens are left, and each turn that goes on takes a token at least. That is `Takes` of crates/cursor/proofs/Loops.antt, proved of the
+-- turn of every loop (by `takes` of Spends.antt, mostly); from it `turns-end` and `enough` there refute the case of no turn left
 unfoldable pub turns : {A : Type 0} → Turn A → ℕ → A → Rule A
 turns t zero a s w = done s w a
 turns t (suc k) a s w = bind (t a s w) (λ s1 w1 n. next (turns t k) n s1 w1)

@@ -30,9 +30,6 @@ abbrev pub endOf : Ranged → ℕ
 endOf (ranged.At r) = r .end
 endOf ranged.Nowhere = 0
 
-unfoldable pub startRange : Sheet → State → ℕ
-startRange e s = startOf (rangeAt (e .tokens) (s .at))
-
 -- past the trivia here
 unfoldable pub eatTrivia : Sheet → Rule Unit
 eatTrivia e s w = done (record { at = pastTrivia (e .tokens) (s .at); prev = s .prev; reads = s .reads; nodes = s .nodes; errors = s .errors; wanted = s .wanted; live = s .live }) w tt

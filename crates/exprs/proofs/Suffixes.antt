@@ -21,7 +21,8 @@ use Rattle.parts.specs.Records.{callRecord}
 use Rattle.parts.specs.Steps.{braced, noMember}
 use Rattle.rules.specs.Blocks.{block}
 use Rattle.rules.specs.Inner.{Inner}
-use Rattle.rules.specs.Primary.{memberChain, access, postfixTurn}
+use Rattle.rules.specs.Primary.{access, postfixTurn}
+use Rattle.rules.proofs.Placed.{memberChain, memberBy, access-placed}
 use Rattle.exprs.specs.Suffix.{suffixes, isSuffix, noSuffix}
 
 -- the ways through `noSuffix`
@@ -78,33 +79,33 @@ module _ (r : Inner) (from : ℕ) (x : Expr) where
       go rest true q = rw (check-no (r .sheet) a s w (other s a ks b) (ltb-true _ _ q) refl) (rest (told s) (telling w s a) (others s a ks b))
       go rest false q = rw (check-full (r .sheet) a s w (other s a ks b) (ltb-false _ _ q)) refl
 
-  access-none : (i : ℕ) (s : State) (w : World) → isIn (here s) (kind.Question ∷ memberChain) ≡ false → bind (pickFrom (r .sheet) (kind.Question ∷ memberChain) i s w) ended ≡ access r from x s w
-  unfolding pickFrom access eatRange noMember
-  access-none i s w b = go (ltb (s .live) liveRoom) refl
+  access-none : (i : ℕ) (s : State) (w : World) → isIn (here s) (kind.Question ∷ memberChain r) ≡ false → bind (pickFrom (r .sheet) (kind.Question ∷ memberChain r) i s w) ended ≡ access r from x s w
+  unfolding pickFrom eatRange noMember
+  access-none i s w b = rw (access-placed r from x) (go (ltb (s .live) liveRoom) refl)
     where
-      go : (t : Bool) → ltb (s .live) liveRoom ≡ t → bind (pickFrom (r .sheet) (kind.Question ∷ memberChain) i s w) ended ≡ access r from x s w
-      go true q = rw (check-no (r .sheet) kind.Question s w (other s kind.Question memberChain b) (ltb-true _ _ q) refl) (chain-none memberChain (i + 1) 0 _ (λ s1 w1. refl) (told s) (telling w s kind.Question) (others s kind.Question memberChain b))
-      go false q = rw (check-full (r .sheet) kind.Question s w (other s kind.Question memberChain b) (ltb-false _ _ q)) refl
+      go : (t : Bool) → ltb (s .live) liveRoom ≡ t → bind (pickFrom (r .sheet) (kind.Question ∷ memberChain r) i s w) ended ≡ (eatRange (r .sheet) kind.Question >>= (λ safe. pick (r .sheet) (memberChain r) >>= memberBy r from x safe)) s w
+      go true q = rw (check-no (r .sheet) kind.Question s w (other s kind.Question (memberChain r) b) (ltb-true _ _ q) refl) (chain-none (memberChain r) (i + 1) 0 _ (λ s1 w1. refl) (told s) (telling w s kind.Question) (others s kind.Question (memberChain r) b))
+      go false q = rw (check-full (r .sheet) kind.Question s w (other s kind.Question (memberChain r) b) (ltb-false _ _ q)) refl
 
   turn-none : (lambda : Bool) (s : State) (w : World) → isSuffix (here s) ≡ false → bind (pickFrom (r .sheet) (suffixes lambda) 0 s w) ended ≡ postfixTurn r from lambda x s w
   unfolding pickFrom postfixTurn eat braced isSuffix
   turn-none true s w b = go (ltb (s .live) liveRoom) refl
     where
-      brace : (s1 : State) (w1 : World) → isIn (here s1) (kind.OpenBrace ∷ kind.Question ∷ memberChain) ≡ false → (t : Bool) → ltb (s1 .live) liveRoom ≡ t → bind (pickFrom (r .sheet) (kind.OpenBrace ∷ kind.Question ∷ memberChain) 1 s1 w1) ended ≡ bind (check (r .sheet) kind.OpenBrace s1 w1) (λ s2 w2 trailing. ifSo (block r node.Closure >>= λ closure. callRecord from (rowOf (linkOf x)) closure) (access r from x) trailing s2 w2)
-      brace s1 w1 c true q = rw (check-no (r .sheet) kind.OpenBrace s1 w1 (other s1 kind.OpenBrace (kind.Question ∷ memberChain) c) (ltb-true _ _ q) refl) (access-none 2 (told s1) (telling w1 s1 kind.OpenBrace) (others s1 kind.OpenBrace (kind.Question ∷ memberChain) c))
-      brace s1 w1 c false q = rw (check-full (r .sheet) kind.OpenBrace s1 w1 (other s1 kind.OpenBrace (kind.Question ∷ memberChain) c) (ltb-false _ _ q)) refl
+      brace : (s1 : State) (w1 : World) → isIn (here s1) (kind.OpenBrace ∷ kind.Question ∷ memberChain r) ≡ false → (t : Bool) → ltb (s1 .live) liveRoom ≡ t → bind (pickFrom (r .sheet) (kind.OpenBrace ∷ kind.Question ∷ memberChain r) 1 s1 w1) ended ≡ bind (check (r .sheet) kind.OpenBrace s1 w1) (λ s2 w2 trailing. ifSo (block r node.Closure >>= λ closure. callRecord from (rowOf (linkOf x)) closure) (access r from x) trailing s2 w2)
+      brace s1 w1 c true q = rw (check-no (r .sheet) kind.OpenBrace s1 w1 (other s1 kind.OpenBrace (kind.Question ∷ memberChain r) c) (ltb-true _ _ q) refl) (access-none 2 (told s1) (telling w1 s1 kind.OpenBrace) (others s1 kind.OpenBrace (kind.Question ∷ memberChain r) c))
+      brace s1 w1 c false q = rw (check-full (r .sheet) kind.OpenBrace s1 w1 (other s1 kind.OpenBrace (kind.Question ∷ memberChain r) c) (ltb-false _ _ q)) refl
 
       go : (t : Bool) → ltb (s .live) liveRoom ≡ t → bind (pickFrom (r .sheet) (suffixes true) 0 s w) ended ≡ postfixTurn r from true x s w
-      go true q = rw (check-no (r .sheet) kind.OpenParen s w (other s kind.OpenParen (kind.OpenBrace ∷ kind.Question ∷ memberChain) b) (ltb-true _ _ q) refl) (brace (told s) (telling w s kind.OpenParen) (others s kind.OpenParen (kind.OpenBrace ∷ kind.Question ∷ memberChain) b) (ltb (s .live + 1) liveRoom) refl)
-      go false q = rw (check-full (r .sheet) kind.OpenParen s w (other s kind.OpenParen (kind.OpenBrace ∷ kind.Question ∷ memberChain) b) (ltb-false _ _ q)) refl
+      go true q = rw (check-no (r .sheet) kind.OpenParen s w (other s kind.OpenParen (kind.OpenBrace ∷ kind.Question ∷ memberChain r) b) (ltb-true _ _ q) refl) (brace (told s) (telling w s kind.OpenParen) (others s kind.OpenParen (kind.OpenBrace ∷ kind.Question ∷ memberChain r) b) (ltb (s .live + 1) liveRoom) refl)
+      go false q = rw (check-full (r .sheet) kind.OpenParen s w (other s kind.OpenParen (kind.OpenBrace ∷ kind.Question ∷ memberChain r) b) (ltb-false _ _ q)) refl
   turn-none false s w b = go (ltb (s .live) liveRoom) refl
     where
       bare : isIn (here s) (suffixes false) ≡ false
-      bare = without (eqb (here s) kind.OpenParen) (eqb (here s) kind.OpenBrace) (isIn (here s) (kind.Question ∷ memberChain)) b
+      bare = without (eqb (here s) kind.OpenParen) (eqb (here s) kind.OpenBrace) (isIn (here s) (kind.Question ∷ memberChain r)) b
 
       go : (t : Bool) → ltb (s .live) liveRoom ≡ t → bind (pickFrom (r .sheet) (suffixes false) 0 s w) ended ≡ postfixTurn r from false x s w
-      go true q = rw (check-no (r .sheet) kind.OpenParen s w (other s kind.OpenParen (kind.Question ∷ memberChain) bare) (ltb-true _ _ q) refl) (access-none 1 (told s) (telling w s kind.OpenParen) (others s kind.OpenParen (kind.Question ∷ memberChain) bare))
-      go false q = rw (check-full (r .sheet) kind.OpenParen s w (other s kind.OpenParen (kind.Question ∷ memberChain) bare) (ltb-false _ _ q)) refl
+      go true q = rw (check-no (r .sheet) kind.OpenParen s w (other s kind.OpenParen (kind.Question ∷ memberChain r) bare) (ltb-true _ _ q) refl) (access-none 1 (told s) (telling w s kind.OpenParen) (others s kind.OpenParen (kind.Question ∷ memberChain r) bare))
+      go false q = rw (check-full (r .sheet) kind.OpenParen s w (other s kind.OpenParen (kind.Question ∷ memberChain r) bare) (ltb-false _ _ q)) refl
 
   -- then the loop comes to what is told at once
   pub unsuffixed : (lambda : Bool) (s : State) (w : World) → isSuffix (here s) ≡ false → noSuffix (r .sheet) lambda x s w ≡ iterate (r .sheet) (postfixTurn r from lambda) x s w

@@ -9,13 +9,14 @@ ghost use Rattle.types.specs.Answers.{asListed};
 ghost use Rattle.parts.specs.Answers.{asParsed, asRowed, asChained};
 ghost use Rattle.rules.specs.Levels.{under};
 ghost use Rattle.rules.specs.Inner.{expr};
-ghost use Rattle.rules.specs.Blocks.{block, andBlock};
-ghost use Rattle.rules.specs.Functions.{function, fnStmt};
+ghost use Rattle.rules.specs.Blocks.{block, exprAndBlock};
+ghost use Rattle.rules.specs.Functions.{function, namedFunction};
 ghost use Rattle.rules.specs.Precedence.{infixTurn, unary, tried, handler};
-ghost use Rattle.rules.specs.Primary.{postfixTurn, call, access, member};
+ghost use Rattle.rules.specs.Primary.{postfixTurn, call, access};
 ghost use Rattle.rules.specs.Tables.{key, item, itemsOf, table, brace};
-ghost use Rattle.rules.specs.Atoms.{group, anon, ifElse, cases, matchCase, loops, form, atom, primary};
-ghost use Rattle.rules.specs.Statements.{right, set, lefts, rights, multi, typed, assign, glo, plain, stmt};
+ghost use Rattle.rules.specs.Atoms.{ifExpr, matchExpr, matchCase, atom, primary};
+ghost use Rattle.rules.specs.Placed.{member, group, anon, loops, form};
+ghost use Rattle.rules.specs.Statements.{right, set, lefts, rights, multi, typedAssign, assign, glo, plain, stmt};
 use crate::suffix::is_suffix;
 use crate::suffix::no_suffix;
 use cursor::Built;
@@ -47,6 +48,7 @@ use kinds::Operator;
 use parts::effects::effect_stmt;
 use parts::forms;
 use parts::imports::import_stmt;
+use parts::members;
 use parts::records::atom_expr;
 use parts::records::block_record;
 use parts::records::call_record;
@@ -65,7 +67,10 @@ use parts::records::row_record;
 use parts::recovery::after_stmt;
 use parts::recovery::recovered;
 use parts::recovery::undone;
+use parts::steps::ARGUMENTS;
 use parts::steps::Asked;
+use parts::steps::ELEMENTS;
+use parts::steps::PROPERTIES;
 use parts::steps::alone;
 use parts::steps::any_params;
 use parts::steps::braced;
@@ -74,7 +79,8 @@ use parts::steps::items_end;
 use parts::steps::leaf;
 use parts::steps::lit_key;
 use parts::steps::loop_names;
-use parts::steps::meta_end;
+use parts::steps::meta_member;
+use parts::steps::name_member;
 use parts::steps::no_member;
 use parts::steps::operator_of;
 use parts::steps::paren_key;
@@ -102,13 +108,6 @@ use types::types::returns;
 use types::types::ty;
 use types::types::typed_ident;
 
-// The item rules of a list.
-pub const ARGUMENTS: u32 = 0;
-
-pub const ELEMENTS: u32 = 1;
-
-pub const PROPERTIES: u32 = 2;
-
 // Rust's parse_exprs: statements up to a kind that ends them. A level is used up on each entry.
 pub fn exprs(
     text: &[u8],
@@ -121,7 +120,7 @@ pub fn exprs(
     s: State,
     end: u8,
 ) -> Rowed
-    ensures { λ r. ⌜ asRowed r (world (now (nodes .exit)) (now (errors .exit)) (now (wanted .exit)) (now (live .exit))) ≡ (under (now (text .entry)) (now (tokens .entry)) left) .body end s (world (now (nodes .entry)) (now (errors .entry)) (now (wanted .entry)) (now (live .entry))) ⌝ }
+    ensures { λ r. ⌜ asRowed r (world (now (nodes .exit)) (now (errors .exit)) (now (wanted .exit)) (now (live .exit))) ≡ (under (now (text .entry)) (now (tokens .entry)) left) .exprs end s (world (now (nodes .entry)) (now (errors .entry)) (now (wanted .entry)) (now (live .entry))) ⌝ }
 {
     let depth = left.depth;
     if depth == 0 {
@@ -324,7 +323,7 @@ fn def(
     from: u32,
     glo: Ranged,
 ) -> Built
-    ensures { λ r. ⌜ asBuilt r (world (now (nodes .exit)) (now (errors .exit)) (now (wanted .exit)) (now (live .exit))) ≡ fnStmt (under (now (text .entry)) (now (tokens .entry)) left) from glo s (world (now (nodes .entry)) (now (errors .entry)) (now (wanted .entry)) (now (live .entry))) ⌝ }
+    ensures { λ r. ⌜ asBuilt r (world (now (nodes .exit)) (now (errors .exit)) (now (wanted .exit)) (now (live .exit))) ≡ namedFunction (under (now (text .entry)) (now (tokens .entry)) left) from glo s (world (now (nodes .entry)) (now (errors .entry)) (now (wanted .entry)) (now (live .entry))) ⌝ }
 {
     let limits = left.limits;
     let opened = expect(tokens, live, limits, s, kinds::FN);
@@ -448,7 +447,7 @@ fn head(
     s: State,
     kids: Kids,
 ) -> Rowed
-    ensures { λ r. ⌜ asRowed r (world (now (nodes .exit)) (now (errors .exit)) (now (wanted .exit)) (now (live .exit))) ≡ andBlock (under (now (text .entry)) (now (tokens .entry)) left) kids s (world (now (nodes .entry)) (now (errors .entry)) (now (wanted .entry)) (now (live .entry))) ⌝ }
+    ensures { λ r. ⌜ asRowed r (world (now (nodes .exit)) (now (errors .exit)) (now (wanted .exit)) (now (live .exit))) ≡ exprAndBlock (under (now (text .entry)) (now (tokens .entry)) left) kids s (world (now (nodes .entry)) (now (errors .entry)) (now (wanted .entry)) (now (live .entry))) ⌝ }
 {
     let tested = expr(text, tokens, nodes, errors, wanted, live, left, s, false);
     let mut s1: State;
@@ -707,7 +706,7 @@ fn tried(
     let mut t = s2;
     let mut kids = called.kids;
     loop {
-        let handled = catch(text, tokens, nodes, errors, wanted, live, left, t);
+        let handled = hand(text, tokens, nodes, errors, wanted, live, left, t);
         let mut s3: State;
         let mut one: u32;
         match handled {
@@ -733,7 +732,7 @@ fn tried(
 }
 
 // A handler of a `try`.
-fn catch(
+fn hand(
     text: &[u8],
     tokens: &[u32],
     nodes: &mut [u32],
@@ -1010,15 +1009,24 @@ fn path(
     if 2 < which {
         return no_member(tokens, s2, x, safe);
     }
-    let read = field(text, tokens, nodes, errors, wanted, live, left, s2, which);
-    match read {
-        Built::Node(t, link) => member_record(nodes, t, from, x, safe, which, link),
-        Built::Failed(f) => Chained::Failed(f),
-    }
+    member(
+        text,
+        tokens,
+        nodes,
+        errors,
+        wanted,
+        live,
+        left,
+        s2,
+        from,
+        x,
+        safe,
+        which,
+    )
 }
 
-// The macro member_expr: what stands behind the opening token; no link for `#`.
-fn field(
+// The macro member_expr, from the opening token on, by that one's place among `[`, `.` and `::`.
+fn member(
     text: &[u8],
     tokens: &[u32],
     nodes: &mut [u32],
@@ -1027,24 +1035,29 @@ fn field(
     live: &mut [u8; 1024],
     left: Left,
     s: State,
+    from: u32,
+    x: Expr,
+    safe: Ranged,
     which: usize,
-) -> Built
-    ensures { λ r. ⌜ asBuilt r (world (now (nodes .exit)) (now (errors .exit)) (now (wanted .exit)) (now (live .exit))) ≡ member (under (now (text .entry)) (now (tokens .entry)) left) which s (world (now (nodes .entry)) (now (errors .entry)) (now (wanted .entry)) (now (live .entry))) ⌝ }
+) -> Chained
+    ensures { λ r. ⌜ asChained r (world (now (nodes .exit)) (now (errors .exit)) (now (wanted .exit)) (now (live .exit))) ≡ member (under (now (text .entry)) (now (tokens .entry)) left) from safe x which s (world (now (nodes .entry)) (now (errors .entry)) (now (wanted .entry)) (now (live .entry))) ⌝ }
 {
     let limits = left.limits;
     let opened = bump(tokens, limits, s);
     let s1 = match opened {
         Moved::On(t) => t,
-        Moved::Failed(f) => return Built::Failed(f),
+        Moved::Failed(f) => return Chained::Failed(f),
     };
     let meta = eat(tokens, live, limits, s1, kinds::POUND);
     let s2 = match meta {
-        Test::Yes(t) => return meta_end(tokens, live, limits, t, which),
+        Test::Yes(t) => {
+            return meta_member(tokens, nodes, live, limits, t, from, x, safe, which);
+        }
         Test::No(t) => t,
-        Test::Failed(f) => return Built::Failed(f),
+        Test::Failed(f) => return Chained::Failed(f),
     };
     if 0 < which {
-        return ident(tokens, nodes, live, limits, s2);
+        return name_member(tokens, nodes, live, limits, s2, from, x, safe, which);
     }
     let read = expr(text, tokens, nodes, errors, wanted, live, left, s2, true);
     let mut s3: State;
@@ -1054,12 +1067,12 @@ fn field(
             s3 = t;
             link = y;
         }
-        Built::Failed(f) => return Built::Failed(f),
+        Built::Failed(f) => return Chained::Failed(f),
     }
     let closed = expect(tokens, live, limits, s3, kinds::CLOSE_BRACKET);
     match closed {
-        Moved::On(t) => Built::Node(t, link),
-        Moved::Failed(f) => Built::Failed(f),
+        Moved::On(t) => member_record(nodes, t, from, x, safe, members::BRACKET, link),
+        Moved::Failed(f) => Chained::Failed(f),
     }
 }
 
@@ -1362,7 +1375,7 @@ fn cond(
     s: State,
     from: u32,
 ) -> Built
-    ensures { λ r. ⌜ asBuilt r (world (now (nodes .exit)) (now (errors .exit)) (now (wanted .exit)) (now (live .exit))) ≡ ifElse (under (now (text .entry)) (now (tokens .entry)) left) from s (world (now (nodes .entry)) (now (errors .entry)) (now (wanted .entry)) (now (live .entry))) ⌝ }
+    ensures { λ r. ⌜ asBuilt r (world (now (nodes .exit)) (now (errors .exit)) (now (wanted .exit)) (now (live .exit))) ≡ ifExpr (under (now (text .entry)) (now (tokens .entry)) left) from s (world (now (nodes .entry)) (now (errors .entry)) (now (wanted .entry)) (now (live .entry))) ⌝ }
 {
     let limits = left.limits;
     let opened = bump(tokens, limits, s);
@@ -1422,7 +1435,7 @@ fn arms(
     s: State,
     from: u32,
 ) -> Built
-    ensures { λ r. ⌜ asBuilt r (world (now (nodes .exit)) (now (errors .exit)) (now (wanted .exit)) (now (live .exit))) ≡ cases (under (now (text .entry)) (now (tokens .entry)) left) from s (world (now (nodes .entry)) (now (errors .entry)) (now (wanted .entry)) (now (live .entry))) ⌝ }
+    ensures { λ r. ⌜ asBuilt r (world (now (nodes .exit)) (now (errors .exit)) (now (wanted .exit)) (now (live .exit))) ≡ matchExpr (under (now (text .entry)) (now (tokens .entry)) left) from s (world (now (nodes .entry)) (now (errors .entry)) (now (wanted .entry)) (now (live .entry))) ⌝ }
 {
     let limits = left.limits;
     let opened = bump(tokens, limits, s);
@@ -2094,7 +2107,7 @@ fn typed(
     from: u32,
     x: Expr,
 ) -> Built
-    ensures { λ r. ⌜ asBuilt r (world (now (nodes .exit)) (now (errors .exit)) (now (wanted .exit)) (now (live .exit))) ≡ typed (under (now (text .entry)) (now (tokens .entry)) left) from x s (world (now (nodes .entry)) (now (errors .entry)) (now (wanted .entry)) (now (live .entry))) ⌝ }
+    ensures { λ r. ⌜ asBuilt r (world (now (nodes .exit)) (now (errors .exit)) (now (wanted .exit)) (now (live .exit))) ≡ typedAssign (under (now (text .entry)) (now (tokens .entry)) left) from x s (world (now (nodes .entry)) (now (errors .entry)) (now (wanted .entry)) (now (live .entry))) ⌝ }
 {
     let limits = left.limits;
     let depth = left.depth;

@@ -1,6 +1,6 @@
 -- Sheets of the table of known outcomes (crates/known/specs/Known.antt) that follow the grammar: their derivations. At the end one that does
 -- not.
-use Prim.Native.Nat.{ℕ, _≤_}
+use Prim.Native.Nat.{ℕ, _<_}
 use mathlib.Core.Path.{_≡_, refl, sym, _∙_}
 use mathlib.Core.List.{List, [], _∷_}
 use mathlib.Core.Bool.{true, false}
@@ -15,7 +15,7 @@ use Rattle.ints.specs.Answer.{judged, firstOf, numberOf, afterwards, fromStrRad
 use Rattle.types.specs.Lits.{literal, intLiteral}
 use Rattle.parts.specs.Steps.{checkedType}
 use Rattle.grammar.specs.Places.{Place, kindOf, spanOf, after, Tok, Not, Free, tokensOf, significant, before}
-use Rattle.grammar.specs.Symbols.{Form, Other, Body, Stmts, Atom, Prec}
+use Rattle.grammar.specs.Symbols.{Form, Other, Exprs, Stmts, Atom, Prec}
 use Rattle.grammar.specs.Derives.{
   signs,
   openers,
@@ -30,13 +30,13 @@ use Rattle.grammar.specs.Derives.{
   an-ident,
   no-type,
   params-of,
-  body-of,
+  exprs-of,
   no-stmt,
   last-stmt,
   a-line,
   block-of,
   function-of,
-  plain,
+  expr-stmt,
   expr-of,
   prec-of,
   no-op,
@@ -45,14 +45,14 @@ use Rattle.grammar.specs.Derives.{
   no-unary,
   primary-of,
   no-post,
-  group,
+  paren-expr,
   name,
   table,
   block-expr,
   atom-literal,
   fn-expr,
   property,
-  group-key,
+  paren-key,
 }
 use Rattle.grammar.specs.Follows.{Follows}
 use Rattle.grammar.specs.Words.{among}
@@ -61,7 +61,7 @@ use Rattle.grammar.proofs.FirstKinds.{stmts, apart}
 use Rattle.grammar.proofs.Starts.{starts}
 
 -- an atom with nothing behind it that could join it
-unfoldable pub alone : {text : List ℕ} {n : ℕ} {f : Form} {p q : Place} → Derives text (Atom f) p q → Free openers q → Not kind.OpenBrace q → levelOf (kindOf q) ≤ n → Derives text (Prec n true f) p q
+unfoldable pub alone : {text : List ℕ} {n : ℕ} {f : Form} {p q : Place} → Derives text (Atom f) p q → Free openers q → Not kind.OpenBrace q → levelOf (kindOf q) < n → Derives text (Prec n true f) p q
 alone d a b c = prec-of (no-unary (primary-of d (no-post a (no-brace b)))) (no-op c)
 
 -- a is int * b
@@ -81,15 +81,32 @@ product-tokens =
     ∷ kind.Ident ∷ 11 ∷ 12
     ∷ []
 
--- `is` stands above level 0 and its type word is no operand, so that the product's left side is the whole check
+-- `is` has a level of 1 or more and its type word is no operand, so that the product's left side is the whole check
 unfoldable pub product : Follows product-text product-tokens
 unfolding before tokensOf significant isTrivia kindOf spanOf after among levelOf binaryOf checkedType typeWord equal
 product = record {
   end = _;
   body =
-      body-of (no-eol (other refl)) (last-stmt (plain (prec-of (no-unary (primary-of (name (an-ident (takes refl refl))) (no-post (free refl) (no-brace (other refl)))))
-      (type-check (ltb-true _ _ refl) (takes refl refl) refl refl
-      (binary {k = kind.Mul} (ltb-true _ _ refl) (eqb-false _ _ refl) (takes refl refl) (alone (name (an-ident (takes refl refl))) (free refl) (other refl) (leb-true _ _ refl)) (no-op (leb-true _ _ refl)))))
+      exprs-of (no-eol (other refl)) (last-stmt (expr-stmt (prec-of (no-unary (primary-of (name (an-ident (takes refl refl))) (no-post (free refl) (no-brace (other refl)))))
+      (type-check (leb-true _ _ refl) (takes refl refl) refl refl
+      (binary {k = kind.Mul} (leb-true _ _ refl) (eqb-false _ _ refl) (takes refl refl) (alone (name (an-ident (takes refl refl))) (free refl) (other refl) (ltb-true _ _ refl)) (no-op (ltb-true _ _ refl)))))
+      (free refl)) (takes refl refl));
+  whole = refl;
+}
+
+-- a*b+c
+abbrev pub sum-tokens : List ℕ
+sum-tokens = kind.Ident ∷ 0 ∷ 1 ∷ kind.Mul ∷ 1 ∷ 2 ∷ kind.Ident ∷ 2 ∷ 3 ∷ kind.Add ∷ 3 ∷ 4 ∷ kind.Ident ∷ 4 ∷ 5 ∷ []
+
+-- a right operand has operators above its own operator's level alone, so that the sum's left side is the product
+unfoldable pub sum : (text : List ℕ) → Follows text sum-tokens
+unfolding before tokensOf significant isTrivia kindOf after among levelOf binaryOf
+sum text = record {
+  end = _;
+  body =
+      exprs-of (no-eol (other refl)) (last-stmt (expr-stmt (prec-of (no-unary (primary-of (name (an-ident (takes refl refl))) (no-post (free refl) (no-brace (other refl)))))
+      (binary {k = kind.Mul} (leb-true _ _ refl) (eqb-false _ _ refl) (takes refl refl) (alone (name (an-ident (takes refl refl))) (free refl) (other refl) (ltb-true _ _ refl))
+      (binary {k = kind.Add} (leb-true _ _ refl) (eqb-false _ _ refl) (takes refl refl) (alone (name (an-ident (takes refl refl))) (free refl) (other refl) (ltb-true _ _ refl)) (no-op (ltb-true _ _ refl)))))
       (free refl)) (takes refl refl));
   whole = refl;
 }
@@ -104,7 +121,7 @@ unfolding before tokensOf significant isTrivia kindOf after among levelOf binary
 empty-table text = record {
   end = _;
   body =
-      body-of (no-eol (other refl)) (last-stmt (plain (alone (table (takes refl refl) (until-of (an-eol (takes refl refl) (no-eol (other refl))) (items-end (takes refl refl)))) (free refl) (other refl) (leb-true _ _ refl))
+      exprs-of (no-eol (other refl)) (last-stmt (expr-stmt (alone (table (takes refl refl) (until-of (an-eol (takes refl refl) (no-eol (other refl))) (items-end (takes refl refl)))) (free refl) (other refl) (ltb-true _ _ refl))
       (free refl)) (takes refl refl));
   whole = refl;
 }
@@ -119,8 +136,8 @@ unfolding before tokensOf significant isTrivia kindOf spanOf after among levelOf
 number-block = record {
   end = _;
   body =
-      body-of (no-eol (other refl)) (last-stmt (plain (alone (block-expr (takes refl refl) (no-eol (other refl)) (other refl)
-      (body-of (no-eol (other refl)) (last-stmt (plain (alone (atom-literal (a-literal refl refl)) (free refl) (other refl) (leb-true _ _ refl)) (free refl)) (takes refl refl)))) (free refl) (other refl) (leb-true _ _ refl))
+      exprs-of (no-eol (other refl)) (last-stmt (expr-stmt (alone (block-expr (takes refl refl) (no-eol (other refl)) (other refl)
+      (exprs-of (no-eol (other refl)) (last-stmt (expr-stmt (alone (atom-literal (a-literal refl refl)) (free refl) (other refl) (ltb-true _ _ refl)) (free refl)) (takes refl refl)))) (free refl) (other refl) (ltb-true _ _ refl))
       (free refl)) (takes refl refl));
   whole = refl;
 }
@@ -128,7 +145,7 @@ number-block = record {
 -- the empty sheet
 unfoldable pub nothing : (text : List ℕ) → Follows text []
 unfolding before tokensOf significant kindOf after
-nothing text = record { end = _; body = body-of (no-eol (other refl)) (no-stmt (takes refl refl)); whole = refl }
+nothing text = record { end = _; body = exprs-of (no-eol (other refl)) (no-stmt (takes refl refl)); whole = refl }
 
 -- {({(x)})}
 abbrev pub nested-tokens : List ℕ
@@ -145,17 +162,17 @@ nested-tokens =
     ∷ []
 
 -- a block of one expression
-unfoldable pub braced : {text : List ℕ} {f : Form} {p q r s : Place} → Tok kind.OpenBrace p q → Not kind.Eol q → Not kind.CloseBrace q → Derives text (Prec 0 true f) q r → Free signs r → Tok kind.CloseBrace r s → Derives text (Atom Other) p s
-braced a b c d e g = block-expr a (no-eol b) c (body-of (no-eol b) (last-stmt (plain d e) g))
+unfoldable pub braced : {text : List ℕ} {f : Form} {p q r s : Place} → Tok kind.OpenBrace p q → Not kind.Eol q → Not kind.CloseBrace q → Derives text (Prec 1 true f) q r → Free signs r → Tok kind.CloseBrace r s → Derives text (Atom Other) p s
+braced a b c d e g = block-expr a (no-eol b) c (exprs-of (no-eol b) (last-stmt (expr-stmt d e) g))
 
 unfoldable pub nested : (text : List ℕ) → Follows text nested-tokens
 unfolding before tokensOf significant isTrivia kindOf after among levelOf binaryOf
 nested text = record {
   end = _;
   body =
-      body-of (no-eol (other refl)) (last-stmt (plain (alone (braced (takes refl refl) (other refl) (other refl)
-      (alone (group (takes refl refl) (expr-of (alone (braced (takes refl refl) (other refl) (other refl)
-      (alone (group (takes refl refl) (expr-of (alone (name (an-ident (takes refl refl))) (free refl) (other refl) (leb-true _ _ refl))) (takes refl refl)) (free refl) (other refl) (leb-true _ _ refl)) (free refl) (takes refl refl)) (free refl) (other refl) (leb-true _ _ refl))) (takes refl refl)) (free refl) (other refl) (leb-true _ _ refl)) (free refl) (takes refl refl)) (free refl) (other refl) (leb-true _ _ refl))
+      exprs-of (no-eol (other refl)) (last-stmt (expr-stmt (alone (braced (takes refl refl) (other refl) (other refl)
+      (alone (paren-expr (takes refl refl) (expr-of (alone (braced (takes refl refl) (other refl) (other refl)
+      (alone (paren-expr (takes refl refl) (expr-of (alone (name (an-ident (takes refl refl))) (free refl) (other refl) (ltb-true _ _ refl))) (takes refl refl)) (free refl) (other refl) (ltb-true _ _ refl)) (free refl) (takes refl refl)) (free refl) (other refl) (ltb-true _ _ refl))) (takes refl refl)) (free refl) (other refl) (ltb-true _ _ refl)) (free refl) (takes refl refl)) (free refl) (other refl) (ltb-true _ _ refl))
       (free refl)) (takes refl refl));
   whole = refl;
 }
@@ -179,9 +196,9 @@ unfolding before tokensOf significant isTrivia kindOf spanOf after among levelOf
 group-table = record {
   end = _;
   body =
-      body-of (no-eol (other refl)) (last-stmt (plain (alone (table (takes refl refl) (until-of (no-eol (other refl)) (items-final
-      (property (group-key (takes refl refl) (expr-of (alone (name (an-ident (takes refl refl))) (free refl) (other refl) (leb-true _ _ refl))) (takes refl refl) (takes refl refl))
-      (expr-of (alone (atom-literal (a-literal refl refl)) (free refl) (other refl) (leb-true _ _ refl)))) (no-eol (other refl)) (takes refl refl)))) (free refl) (other refl) (leb-true _ _ refl))
+      exprs-of (no-eol (other refl)) (last-stmt (expr-stmt (alone (table (takes refl refl) (until-of (no-eol (other refl)) (items-final
+      (property (paren-key (takes refl refl) (expr-of (alone (name (an-ident (takes refl refl))) (free refl) (other refl) (ltb-true _ _ refl))) (takes refl refl) (takes refl refl))
+      (expr-of (alone (atom-literal (a-literal refl refl)) (free refl) (other refl) (ltb-true _ _ refl)))) (no-eol (other refl)) (takes refl refl)))) (free refl) (other refl) (ltb-true _ _ refl))
       (free refl)) (takes refl refl));
   whole = refl;
 }
@@ -204,8 +221,8 @@ unfolding before tokensOf significant isTrivia kindOf after among levelOf binary
 nameless text = record {
   end = _;
   body =
-      body-of (no-eol (other refl)) (last-stmt (plain (alone (fn-expr (takes refl refl) (function-of (params-of (takes refl refl) (until-of (no-eol (other refl)) (items-end (takes refl refl))))
-      (no-type (other refl)) (block-of (takes refl refl) (body-of (no-eol (other refl)) (no-stmt (takes refl refl)))))) (free refl) (other refl) (leb-true _ _ refl))
+      exprs-of (no-eol (other refl)) (last-stmt (expr-stmt (alone (fn-expr (takes refl refl) (function-of (params-of (takes refl refl) (until-of (no-eol (other refl)) (items-end (takes refl refl))))
+      (no-type (other refl)) (block-of (takes refl refl) (exprs-of (no-eol (other refl)) (no-stmt (takes refl refl)))))) (free refl) (other refl) (ltb-true _ _ refl))
       (free refl)) (takes refl refl));
   whole = refl;
 }
@@ -217,9 +234,9 @@ module _ {text : List ℕ} {p q : Place} (k : ℕ) (here : kindOf p ≡ k) (not-
   no-stmts (last-stmt d a) = apart k (starts d) none-starts .differs here
   no-stmts (a-line d a b e) = apart k (starts d) none-starts .differs here
 
-unfollowed : {text : List ℕ} {p q : Place} (k : ℕ) → kindOf p ≡ k → (k ≡ kind.Eof → ⊥) → (k ≡ kind.Eol → ⊥) → among k stmts ≡ false → Derives text (Body kind.Eof) p q → ⊥
-unfollowed k here not-end not-eol none-starts (body-of (no-eol a) d) = no-stmts k here not-end none-starts d
-unfollowed k here not-end not-eol none-starts (body-of (an-eol a b) d) = not-eol (sym here ∙ a .here)
+unfollowed : {text : List ℕ} {p q : Place} (k : ℕ) → kindOf p ≡ k → (k ≡ kind.Eof → ⊥) → (k ≡ kind.Eol → ⊥) → among k stmts ≡ false → Derives text (Exprs kind.Eof) p q → ⊥
+unfollowed k here not-end not-eol none-starts (exprs-of (no-eol a) d) = no-stmts k here not-end none-starts d
+unfollowed k here not-end not-eol none-starts (exprs-of (an-eol a b) d) = not-eol (sym here ∙ a .here)
 
 parenthesis : (text : List ℕ) → Follows text (kind.CloseParen ∷ 0 ∷ 1 ∷ []) → ⊥
 unfolding before tokensOf significant isTrivia kindOf among

@@ -1,6 +1,7 @@
 pub mod Tests
 pub mod FirstKinds
 pub mod Starts
+pub mod Levels
 pub mod Examples
 pub mod ExampleTrees
 pub mod UnambiguousClaims

@@ -39,7 +39,7 @@ module _ {text : List ℕ} where
   unique (g.no-type h) = by-symbol _ _ _ (g.no-type h) tt
   unique (g.returned a d) = by-symbol _ _ _ (g.returned a d) (unique d)
   unique (g.bare d h) = by-symbol _ _ _ (g.bare d h) tt
-  unique (g.typed d a e) = by-symbol _ _ _ (g.typed d a e) (unique e)
+  unique (g.typed-ident d a e) = by-symbol _ _ _ (g.typed-ident d a e) (unique e)
   unique (g.params-of a d) = by-symbol _ _ _ (g.params-of a d) (unique d)
   unique (g.closure-params a d) = by-symbol _ _ _ (g.closure-params a d) (unique d)
   unique (g.pattern-name d) = by-symbol _ _ _ (g.pattern-name d) tt
@@ -47,7 +47,7 @@ module _ {text : List ℕ} where
   unique (g.pattern-list a d) = by-symbol _ _ _ (g.pattern-list a d) (unique d)
   unique (g.pattern-literal d) = by-symbol _ _ _ (g.pattern-literal d) tt
   unique (g.pattern-pair d a e) = by-symbol _ _ _ (g.pattern-pair d a e) (unique e)
-  unique (g.body-of a d) = by-symbol _ _ _ (g.body-of a d) (unique d)
+  unique (g.exprs-of a d) = by-symbol _ _ _ (g.exprs-of a d) (unique d)
   unique (g.no-stmt a) = by-symbol _ _ _ (g.no-stmt a) tt
   unique (g.last-stmt d a) = by-symbol _ _ _ (g.last-stmt d a) (unique d)
   unique (g.a-line d a b e) = by-symbol _ _ _ (g.a-line d a b e) (unique d, unique e)
@@ -67,7 +67,7 @@ module _ {text : List ℕ} where
   unique (g.path-all d a b) = by-symbol _ _ _ (g.path-all d a b) tt
   unique (g.item-alone d h) = by-symbol _ _ _ (g.item-alone d h) tt
   unique (g.item-as d a e) = by-symbol _ _ _ (g.item-as d a e) tt
-  unique (g.plain d h) = by-symbol _ _ _ (g.plain d h) (unique d)
+  unique (g.expr-stmt d h) = by-symbol _ _ _ (g.expr-stmt d h) (unique d)
   unique (g.assign d f a e) = by-symbol _ _ _ (g.assign d f a e) (unique d, unique e)
   unique (g.typed-assign d a e b f) = by-symbol _ _ _ (g.typed-assign d a e b f) (unique d, unique e, unique f)
   unique (g.op-assign d f c a e) = by-symbol _ _ _ (g.op-assign d f c a e) (unique d, unique e)
@@ -82,8 +82,8 @@ module _ {text : List ℕ} where
   unique (g.no-op h) = by-symbol _ _ _ (g.no-op h) tt
   unique (g.binary l h a d e) = by-symbol _ _ _ (g.binary l h a d e) (unique d, unique e)
   unique (g.type-check l a c b e) = by-symbol _ _ _ (g.type-check l a c b e) (unique e)
-  unique (g.negated a d) = by-symbol _ _ _ (g.negated a d) (unique d)
-  unique (g.minus a d) = by-symbol _ _ _ (g.minus a d) (unique d)
+  unique (g.not-expr a d) = by-symbol _ _ _ (g.not-expr a d) (unique d)
+  unique (g.neg-expr a d) = by-symbol _ _ _ (g.neg-expr a d) (unique d)
   unique (g.tried a d e) = by-symbol _ _ _ (g.tried a d e) (unique d, unique e)
   unique (g.no-unary d) = by-symbol _ _ _ (g.no-unary d) (unique d)
   unique (g.last-handler d h) = by-symbol _ _ _ (g.last-handler d h) (unique d)
@@ -102,7 +102,7 @@ module _ {text : List ℕ} where
   unique (g.bracket-meta a b c) = by-symbol _ _ _ (g.bracket-meta a b c) tt
   unique (g.dot-meta a b) = by-symbol _ _ _ (g.dot-meta a b) tt
   unique (g.double-colon-meta a b) = by-symbol _ _ _ (g.double-colon-meta a b) tt
-  unique (g.group a d b) = by-symbol _ _ _ (g.group a d b) (unique d)
+  unique (g.paren-expr a d b) = by-symbol _ _ _ (g.paren-expr a d b) (unique d)
   unique (g.name d) = by-symbol _ _ _ (g.name d) tt
   unique (g.table a d) = by-symbol _ _ _ (g.table a d) (unique d)
   unique (g.block-expr a e h d) = by-symbol _ _ _ (g.block-expr a e h d) (unique d)
@@ -130,7 +130,7 @@ module _ {text : List ℕ} where
   unique (g.last-pattern d h) = by-symbol _ _ _ (g.last-pattern d h) (unique d)
   unique (g.more-patterns d a e) = by-symbol _ _ _ (g.more-patterns d a e) (unique d, unique e)
   unique (g.property d e) = by-symbol _ _ _ (g.property d e) (unique d, unique e)
-  unique (g.group-key a d b c) = by-symbol _ _ _ (g.group-key a d b c) (unique d)
+  unique (g.paren-key a d b c) = by-symbol _ _ _ (g.paren-key a d b c) (unique d)
   unique (g.literal-key d a) = by-symbol _ _ _ (g.literal-key d a) tt
 
 -- the trees of a sheet are one

@@ -17,7 +17,7 @@ use Rattle.grammar.specs.Symbols.{
   NoLast,
   Lit,
   Ident,
-  Body,
+  Exprs,
   Block,
   Function,
   Expr,
@@ -42,10 +42,10 @@ use Rattle.grammar.proofs.UnambiguousStmts.{led-body}
 module _ {text : List ℕ} where
   -- an atom by its first token
   data AtomAt : ℕ → (f : Form) (p q : Place) → Derives text (Atom f) p q → Type 0 where
-    at-group : {p q r t : Place} (a : Tok kind.OpenParen p q) (d : Derives text (Expr true) q r) (c : Tok kind.CloseParen r t) → AtomAt kind.OpenParen Other p t (g.group a d c)
+    at-group : {p q r t : Place} (a : Tok kind.OpenParen p q) (d : Derives text (Expr true) q r) (c : Tok kind.CloseParen r t) → AtomAt kind.OpenParen Other p t (g.paren-expr a d c)
     at-name : {p q : Place} (d : Derives text Ident p q) → AtomAt kind.Ident Name p q (g.name d)
     at-table : {p q r : Place} (a : Tok kind.OpenBrace p q) (d : Derives text (Until Property NoLast kind.CloseBrace) q r) → AtomAt kind.OpenBrace Other p r (g.table a d)
-    at-block : {p q r t : Place} (a : Tok kind.OpenBrace p q) (l : Derives text Eols q r) (h : Not kind.CloseBrace r) (d : Derives text (Body kind.CloseBrace) r t) → AtomAt kind.OpenBrace Other p t (g.block-expr a l h d)
+    at-block : {p q r t : Place} (a : Tok kind.OpenBrace p q) (l : Derives text Eols q r) (h : Not kind.CloseBrace r) (d : Derives text (Exprs kind.CloseBrace) r t) → AtomAt kind.OpenBrace Other p t (g.block-expr a l h d)
     at-list : {p q r : Place} (a : Tok kind.OpenBracket p q) (d : Derives text (Until (Expr true) NoLast kind.CloseBracket) q r) → AtomAt kind.OpenBracket Other p r (g.list a d)
     at-literal : {p q : Place} (d : Derives text Lit p q) → AtomAt 0 Other p q (g.atom-literal d)
     at-fn : {p q r : Place} (a : Tok kind.Fn p q) (d : Derives text (Function false) q r) → AtomAt kind.Fn Other p r (g.fn-expr a d)
@@ -65,7 +65,7 @@ module _ {text : List ℕ} where
 
   seen : {f : Form} {p q : Place} (d : Derives text (Atom f) p q) → AtomAt (sort (kindOf p)) f p q d
   unfolding sort among
-  seen (g.group a d c) = by-kind (a .here) (at-group a d c)
+  seen (g.paren-expr a d c) = by-kind (a .here) (at-group a d c)
   seen (g.name d) = by-kind (starts d .stands) (at-name d)
   seen (g.table a d) = by-kind (a .here) (at-table a d)
   seen (g.block-expr a l h d) = by-kind (a .here) (at-block a l h d)
@@ -84,13 +84,13 @@ module _ {text : List ℕ} where
   seen (g.return-expr a d) = by-kind (a .here) (at-return a d)
 
   -- no table is a block: by what is claimed of the table, and by what is claimed of the block
-  no-block : {p q u v w : Place} (d : Derives text (Until Property NoLast kind.CloseBrace) p q) → UniqueUntil (Sole Property) d → Derives text Eols u v → Not kind.CloseBrace v → Derives text (Body kind.CloseBrace) v w → p ≡ u → ⊥
+  no-block : {p q u v w : Place} (d : Derives text (Until Property NoLast kind.CloseBrace) p q) → UniqueUntil (Sole Property) d → Derives text Eols u v → Not kind.CloseBrace v → Derives text (Exprs kind.CloseBrace) v w → p ≡ u → ⊥
   no-block (g.until-of l (g.items-end a)) b l' h' d' e = refuse h' (a .here) (sym (eols l l' e))
   no-block (g.until-of l (g.items-last d m c)) b l' h' d' e = starts d
   no-block (g.until-of l (g.items-final (g.property k x) m c)) b l' h' d' e = led-body k (λ f u v y h. b .first .lead y h) by-brace d' (eols l l' e)
   no-block (g.until-of l (g.items-comma (g.property k x) m c n i)) b l' h' d' e = led-body k (λ f u v y h. b .first .lead y h) by-brace d' (eols l l' e)
 
-  no-table : {p q r u v : Place} {d : Derives text (Body kind.CloseBrace) q r} → Derives text Eols p q → Not kind.CloseBrace q → UniqueStmt d → Derives text (Until Property NoLast kind.CloseBrace) u v → p ≡ u → ⊥
+  no-table : {p q r u v : Place} {d : Derives text (Exprs kind.CloseBrace) q r} → Derives text Eols p q → Not kind.CloseBrace q → UniqueStmt d → Derives text (Until Property NoLast kind.CloseBrace) u v → p ≡ u → ⊥
   no-table l h b (g.until-of l' (g.items-end a')) e = refuse h (a' .here) (eols l l' e)
   no-table l h b (g.until-of l' (g.items-last d' m' c')) e = starts d'
   no-table l h b (g.until-of l' (g.items-final (g.property k' x') m' c')) e = b .keyless k' (eols l l' e)

@@ -37,7 +37,7 @@ module _ {text : List ℕ} where
   Below (g.no-type h) = Unit
   Below (g.returned a d) = Of d
   Below (g.bare d h) = Unit
-  Below (g.typed d a e) = Of e
+  Below (g.typed-ident d a e) = Of e
   Below (g.params-of a d) = Of d
   Below (g.closure-params a d) = Of d
   Below (g.pattern-name d) = Unit
@@ -45,7 +45,7 @@ module _ {text : List ℕ} where
   Below (g.pattern-list a d) = Of d
   Below (g.pattern-literal d) = Unit
   Below (g.pattern-pair d a e) = Of e
-  Below (g.body-of a d) = Of d
+  Below (g.exprs-of a d) = Of d
   Below (g.no-stmt a) = Unit
   Below (g.last-stmt d a) = Of d
   Below (g.a-line d a b e) = Of d × Of e
@@ -65,7 +65,7 @@ module _ {text : List ℕ} where
   Below (g.path-all d a b) = Unit
   Below (g.item-alone d h) = Unit
   Below (g.item-as d a e) = Unit
-  Below (g.plain d h) = Of d
+  Below (g.expr-stmt d h) = Of d
   Below (g.assign d f a e) = Of d × Of e
   Below (g.typed-assign d a e b f) = Of d × Of e × Of f
   Below (g.op-assign d f c a e) = Of d × Of e
@@ -80,8 +80,8 @@ module _ {text : List ℕ} where
   Below (g.no-op h) = Unit
   Below (g.binary l h a d e) = Of d × Of e
   Below (g.type-check l a c b e) = Of e
-  Below (g.negated a d) = Of d
-  Below (g.minus a d) = Of d
+  Below (g.not-expr a d) = Of d
+  Below (g.neg-expr a d) = Of d
   Below (g.tried a d e) = Of d × Of e
   Below (g.no-unary d) = Of d
   Below (g.last-handler d h) = Of d
@@ -100,7 +100,7 @@ module _ {text : List ℕ} where
   Below (g.bracket-meta a b c) = Unit
   Below (g.dot-meta a b) = Unit
   Below (g.double-colon-meta a b) = Unit
-  Below (g.group a d b) = Of d
+  Below (g.paren-expr a d b) = Of d
   Below (g.name d) = Unit
   Below (g.table a d) = Of d
   Below (g.block-expr a e h d) = Of d
@@ -128,5 +128,5 @@ module _ {text : List ℕ} where
   Below (g.last-pattern d h) = Of d
   Below (g.more-patterns d a e) = Of d × Of e
   Below (g.property d e) = Of d × Of e
-  Below (g.group-key a d b c) = Of d
+  Below (g.paren-key a d b c) = Of d
   Below (g.literal-key d a) = Unit

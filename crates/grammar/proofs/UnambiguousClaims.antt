@@ -103,7 +103,7 @@ module _ {text : List ℕ} where
   -- a key, or a property by its key: an expression that starts where it does ends at its Colon
   pub record UniqueKey {y : Sym} {p q : Place} (d : Derives text y p q) : Type 0 where
     pub agrees : {u v : Place} (e : Derives text y u v) → p ≡ u → Agree d e
-    pub lead : {f : Form} {u v : Place} → Derives text (s.Prec 0 true f) u v → p ≡ u → Behind f v
+    pub lead : {f : Form} {u v : Place} → Derives text (s.Prec 1 true f) u v → p ≡ u → Behind f v
 
   -- a statement, or statements by their first: no key starts where it does
   pub record UniqueStmt {y : Sym} {p q : Place} (d : Derives text y p q) : Type 0 where
@@ -147,7 +147,7 @@ module _ {text : List ℕ} where
   Sole (s.Typed x) p q d = Item x → Unique d
   Sole s.Pattern p q d = Unique d
   Sole s.PatternPair p q d = Unique d
-  Sole (s.Body end) p q d = Ending end → UniqueStmt d
+  Sole (s.Exprs end) p q d = Ending end → UniqueStmt d
   Sole (s.Stmts end) p q d = Ending end → UniqueStmt d
   Sole s.Block p q d = Unique d
   Sole s.Stmt p q d = UniqueStmt d

@@ -10,7 +10,7 @@ use Rattle.kinds.specs.Number as kind
 use Rattle.cursor.specs.declared.Ranged.the-variants as ranged
 use Rattle.cursor.specs.Node as node
 use Rattle.grammar.specs.Places.{Place, kindOf, spanOf, startOf, after, Tok, Not}
-use Rattle.grammar.specs.Symbols.{Form, Ident, Ty, Typed, Expr, Prec, Function, Effect, Path, Stmt, Stmts, Body, Key}
+use Rattle.grammar.specs.Symbols.{Form, Ident, Ty, Typed, Expr, Prec, Function, Effect, Path, Stmt, Stmts, Exprs, Key}
 use Rattle.grammar.specs.Derives.{Derives}
 use Rattle.grammar.specs.Derives as g
 use Rattle.grammar.specs.Builders.{blank, more, couple, fnOver, effectOver}
@@ -82,7 +82,7 @@ not-eol by-input e = omega (arith, e)
 module _ {text : List ℕ} where
   -- a statement by which one it is
   data StmtAt : ℕ → (p q : Place) → Derives text Stmt p q → Type 0 where
-    at-expr : {k : ℕ} {f : Form} {p q r : Place} {d : Derives text (Prec 0 true f) p q} {s : Derives text Stmt p r} → TailAt k f p q r d s → StmtAt 0 p r s
+    at-expr : {k : ℕ} {f : Form} {p q r : Place} {d : Derives text (Prec 1 true f) p q} {s : Derives text Stmt p r} → TailAt k f p q r d s → StmtAt 0 p r s
     at-import : {p q r : Place} (a : Tok kind.Import p q) (d : Derives text Path q r) → StmtAt 1 p r (g.import-stmt a d)
     at-effect : {p q : Place} (d : Derives text Effect p q) → StmtAt 2 p q (g.effect-stmt d)
     at-glo-fn : {p q r t u : Place} (a : Tok kind.Glo p q) (c : Tok kind.Fn q r) (d : Derives text Ident r t) (e : Derives text (Function false) t u) → StmtAt 3 p u (g.glo-fn a c d e)
@@ -93,7 +93,7 @@ module _ {text : List ℕ} where
   by-sort : {k : ℕ} {p q : Place} {s : Derives text Stmt p q} → stmtSort p ≡ k → StmtAt k p q s → StmtAt (stmtSort p) p q s
   by-sort {p = p} {q = q} {s = s} e v = subst (λ j. StmtAt j p q s) (sym e) v
 
-  by-expr : {k : ℕ} {f : Form} {p q r : Place} {d : Derives text (Prec 0 true f) p q} {s : Derives text Stmt p r} → TailAt k f p q r d s → StmtAt (stmtSort p) p r s
+  by-expr : {k : ℕ} {f : Form} {p q r : Place} {d : Derives text (Prec 1 true f) p q} {s : Derives text Stmt p r} → TailAt k f p q r d s → StmtAt (stmtSort p) p r s
   by-expr {d = d} t = by-sort (expr-sort (starts d)) (at-expr t)
 
   seen : {p q : Place} (s : Derives text Stmt p q) → StmtAt (stmtSort p) p q s
@@ -103,7 +103,7 @@ module _ {text : List ℕ} where
   seen (g.glo-fn a c d e) = by-sort (two a (c .here)) (at-glo-fn a c d e)
   seen (g.glo-effect a d) = by-sort (two a (starts d .stands)) (at-glo-effect a d)
   seen (g.glo-assign a d c e) = by-sort (two a (starts d .stands)) (at-glo-assign a d c e)
-  seen (g.plain d h) = by-expr (at-plain d h)
+  seen (g.expr-stmt d h) = by-expr (at-plain d h)
   seen (g.assign d c a e) = by-expr (at-assign d c a e)
   seen (g.typed-assign d a e c f) = by-expr (at-typed d a e c f)
   seen (g.op-assign d c o a e) = by-expr (at-op d c o a e)
@@ -170,17 +170,17 @@ module _ {text : List ℕ} where
   stmts-keyless c (g.last-stmt d a) b k e = b .keyless k e
   stmts-keyless c (g.a-line d a l f) b k e = b .0 .keyless k e
 
-  pub body : {end : ℕ} {p q u v : Place} → Ending end → (d : Derives text (Body end) p q) → Below d → (e : Derives text (Body end) u v) → p ≡ u → Agree d e
+  pub body : {end : ℕ} {p q u v : Place} → Ending end → (d : Derives text (Exprs end) p q) → Below d → (e : Derives text (Exprs end) u v) → p ≡ u → Agree d e
   unfolding shape
-  body c (g.body-of l d) b (g.body-of l' d') e = let r = b c .agrees d' (eols l l' e) in record { ends = r .ends; shapes = r .shapes }
+  body c (g.exprs-of l d) b (g.exprs-of l' d') e = let r = b c .agrees d' (eols l l' e) in record { ends = r .ends; shapes = r .shapes }
 
-  pub body-keyless : {end : ℕ} {p q u v : Place} → Ending end → (d : Derives text (Body end) p q) → Below d → Derives text Key u v → p ≡ u → ⊥
+  pub body-keyless : {end : ℕ} {p q u v : Place} → Ending end → (d : Derives text (Exprs end) p q) → Below d → Derives text Key u v → p ≡ u → ⊥
   unfolding among
-  body-keyless c (g.body-of (g.no-eol h) d) b k e = b c .keyless k e
-  body-keyless c (g.body-of (g.an-eol a l) d) b k e = refuse (apart kind.Eol (starts k) refl) (a .here) (sym e)
+  body-keyless c (g.exprs-of (g.no-eol h) d) b k e = b c .keyless k e
+  body-keyless c (g.exprs-of (g.an-eol a l) d) b k e = refuse (apart kind.Eol (starts k) refl) (a .here) (sym e)
 
   -- the other way round: where all expressions end as a key's does there is no statement
-  module _ {p q : Place} (k : Derives text Key p q) (lead : (f : Form) (u v : Place) → Derives text (Prec 0 true f) u v → p ≡ u → Behind f v) where
+  module _ {p q : Place} (k : Derives text Key p q) (lead : (f : Form) (u v : Place) → Derives text (Prec 1 true f) u v → p ≡ u → Behind f v) where
     led : {u v : Place} {s : Derives text Stmt u v} → StmtAt 0 u v s → p ≡ u → ⊥
     led (at-expr {d = d} t) e = no-colon t (lead _ _ _ d e)
 
@@ -190,7 +190,7 @@ module _ {text : List ℕ} where
     led-stmts c (g.last-stmt d a) e = led (at-key d k (sym e)) e
     led-stmts c (g.a-line d a l f) e = led (at-key d k (sym e)) e
 
-    pub led-body : {end : ℕ} {u v : Place} → Ending end → Derives text (Body end) u v → p ≡ u → ⊥
+    pub led-body : {end : ℕ} {u v : Place} → Ending end → Derives text (Exprs end) u v → p ≡ u → ⊥
     unfolding among
-    led-body c (g.body-of (g.no-eol h) d) e = led-stmts c d e
-    led-body c (g.body-of (g.an-eol a l) d) e = refuse (apart kind.Eol (starts k) refl) (a .here) e
+    led-body c (g.exprs-of (g.no-eol h) d) e = led-stmts c d e
+    led-body c (g.exprs-of (g.an-eol a l) d) e = refuse (apart kind.Eol (starts k) refl) (a .here) e

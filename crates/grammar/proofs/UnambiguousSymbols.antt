@@ -40,7 +40,7 @@ module _ {text : List ℕ} where
   by-symbol (s.Typed x) p q d b = λ i. record { agrees = typed i d b }
   by-symbol s.Pattern p q d b = record { agrees = pattern d b }
   by-symbol s.PatternPair p q d b = record { agrees = pattern-pair d b }
-  by-symbol (s.Body end) p q d b = λ c. record { agrees = body c d b; keyless = body-keyless c d b }
+  by-symbol (s.Exprs end) p q d b = λ c. record { agrees = body c d b; keyless = body-keyless c d b }
   by-symbol (s.Stmts end) p q d b = λ c. record { agrees = stmts c d b; keyless = stmts-keyless c d b }
   by-symbol s.Block p q d b = record { agrees = block d b }
   by-symbol s.Stmt p q d b = record { agrees = stmt d b; keyless = stmt-keyless d b }

@@ -85,19 +85,19 @@ module _ {text : List ℕ} where
       record { ends = t .ends; shapes = longer r t }
 
   -- a statement by the expression that it begins with and the kind behind that
-  pub data TailAt : ℕ → (f : Form) (p q r : Place) → Derives text (Prec 0 true f) p q → Derives text Stmt p r → Type 0 where
-    at-plain : {f : Form} {p q : Place} (d : Derives text (Prec 0 true f) p q) (h : Free signs q) → TailAt 0 f p q q d (g.plain d h)
-    at-assign : {f : Form} {p q r t : Place} (d : Derives text (Prec 0 true f) p q) (c : Assignable f) (a : Tok kind.Assign q r) (e : Derives text (Expr true) r t) → TailAt kind.Assign f p q t d (g.assign d c a e)
-    at-typed : {p q r t u v : Place} (d : Derives text (Prec 0 true Name) p q) (a : Tok kind.Colon q r) (e : Derives text Ty r t) (b : Tok kind.Assign t u) (k : Derives text (Expr true) u v)
+  pub data TailAt : ℕ → (f : Form) (p q r : Place) → Derives text (Prec 1 true f) p q → Derives text Stmt p r → Type 0 where
+    at-plain : {f : Form} {p q : Place} (d : Derives text (Prec 1 true f) p q) (h : Free signs q) → TailAt 0 f p q q d (g.expr-stmt d h)
+    at-assign : {f : Form} {p q r t : Place} (d : Derives text (Prec 1 true f) p q) (c : Assignable f) (a : Tok kind.Assign q r) (e : Derives text (Expr true) r t) → TailAt kind.Assign f p q t d (g.assign d c a e)
+    at-typed : {p q r t u v : Place} (d : Derives text (Prec 1 true Name) p q) (a : Tok kind.Colon q r) (e : Derives text Ty r t) (b : Tok kind.Assign t u) (k : Derives text (Expr true) u v)
         → TailAt kind.Colon Name p q v d (g.typed-assign d a e b k)
-    at-op : {f : Form} {k op : ℕ} {p q r t : Place} (d : Derives text (Prec 0 true f) p q) (c : Assignable f) (o : Compound k op) (a : Tok k q r) (e : Derives text (Expr true) r t)
+    at-op : {f : Form} {k op : ℕ} {p q r t : Place} (d : Derives text (Prec 1 true f) p q) (c : Assignable f) (o : Compound k op) (a : Tok k q r) (e : Derives text (Expr true) r t)
         → TailAt 1 f p q t d (g.op-assign d c o a e)
-    at-unpack : {f : Form} {n : ℕ} {p q r t u : Place} (d : Derives text (Prec 0 true f) p q) (c : Assignable f) (e : Derives text (Lefts (suc n)) q r) (a : Tok kind.Assign r t) (k : Derives text (Expr true) t u) (h : Not kind.Comma u)
+    at-unpack : {f : Form} {n : ℕ} {p q r t u : Place} (d : Derives text (Prec 1 true f) p q) (c : Assignable f) (e : Derives text (Lefts (suc n)) q r) (a : Tok kind.Assign r t) (k : Derives text (Expr true) t u) (h : Not kind.Comma u)
         → TailAt kind.Comma f p q u d (g.unpack d c e a k h)
-    at-multi : {f : Form} {n : ℕ} {p q r t u v : Place} (d : Derives text (Prec 0 true f) p q) (c : Assignable f) (e : Derives text (Lefts (suc n)) q r) (a : Tok kind.Assign r t) (k : Derives text (Expr true) t u) (h : Derives text (Rights (suc n)) u v)
+    at-multi : {f : Form} {n : ℕ} {p q r t u v : Place} (d : Derives text (Prec 1 true f) p q) (c : Assignable f) (e : Derives text (Lefts (suc n)) q r) (a : Tok kind.Assign r t) (k : Derives text (Expr true) t u) (h : Derives text (Rights (suc n)) u v)
         → TailAt kind.Comma f p q v d (g.multi d c e a k h)
 
-  pub tail-sort : {k : ℕ} {f : Form} {p q r : Place} {d : Derives text (Prec 0 true f) p q} {s : Derives text Stmt p r} → TailAt k f p q r d s → signSort (kindOf q) ≡ k
+  pub tail-sort : {k : ℕ} {f : Form} {p q r : Place} {d : Derives text (Prec 1 true f) p q} {s : Derives text Stmt p r} → TailAt k f p q r d s → signSort (kindOf q) ≡ k
   unfolding signSort among
   tail-sort (at-plain d h) = no-sign h
   tail-sort (at-assign d c a e) = ap signSort (a .here)
@@ -107,7 +107,7 @@ module _ {text : List ℕ} where
   tail-sort (at-multi d c e a l h) = ap signSort (left-comma e)
 
   -- the claim on the expression
-  pub begun : {k : ℕ} {f : Form} {p q r : Place} {d : Derives text (Prec 0 true f) p q} {s : Derives text Stmt p r} → TailAt k f p q r d s → Below s → UniquePrec d
+  pub begun : {k : ℕ} {f : Form} {p q r : Place} {d : Derives text (Prec 1 true f) p q} {s : Derives text Stmt p r} → TailAt k f p q r d s → Below s → UniquePrec d
   begun (at-plain d h) b = b
   begun (at-assign d c a e) b = b .0
   begun (at-typed d a e c l) b = b .0
@@ -116,7 +116,7 @@ module _ {text : List ℕ} where
   begun (at-multi d c e a l h) b = b .0
 
   -- no statement has a Colon behind such an expression as a key is
-  pub no-colon : {k : ℕ} {f : Form} {p q r : Place} {d : Derives text (Prec 0 true f) p q} {s : Derives text Stmt p r} → TailAt k f p q r d s → Behind f q → ⊥
+  pub no-colon : {k : ℕ} {f : Form} {p q r : Place} {d : Derives text (Prec 1 true f) p q} {s : Derives text Stmt p r} → TailAt k f p q r d s → Behind f q → ⊥
   unfolding among
   no-colon (at-plain d h) b = true≢false (sym (ap (λ j. among j signs) (b .colon)) ∙ free-of h)
   no-colon (at-assign d c a e) b = not-other c (b .form)
@@ -125,7 +125,7 @@ module _ {text : List ℕ} where
   no-colon (at-unpack d c e a l h) b = not-other c (b .form)
   no-colon (at-multi d c e a l h) b = not-other c (b .form)
 
-  pub same-tail : {k : ℕ} {f i : Form} {p q r u v w : Place} {d : Derives text (Prec 0 true f) p q} {s : Derives text Stmt p r} {d' : Derives text (Prec 0 true i) u v} {s' : Derives text Stmt u w} → TailAt k f p q r d s → Below s
+  pub same-tail : {k : ℕ} {f i : Form} {p q r u v w : Place} {d : Derives text (Prec 1 true f) p q} {s : Derives text Stmt p r} {d' : Derives text (Prec 1 true i) u v} {s' : Derives text Stmt u w} → TailAt k f p q r d s → Below s
       → TailAt k i u v w d' s' → p ≡ u → Agree d d' → Agree s s'
   unfolding shape
   same-tail (at-plain d h) b (at-plain d' h') e r = record { ends = r .ends; shapes = λ x so. value r }

@@ -101,9 +101,9 @@ module _ {text : List ℕ} where
   pub typed : {x : Sym} {p q u v : Place} → Item x → (d : Derives text (Typed x) p q) → Below d → (e : Derives text (Typed x) u v) → p ≡ u → Agree d e
   unfolding shape
   typed j (g.bare d h) b (g.bare d' h') e = let r = ident d d' e in record { ends = r .ends; shapes = λ x so. value r }
-  typed j (g.bare d h) b (g.typed d' a' f') e = absurd (refuse h (a' .here) (ident d d' e .ends))
-  typed j (g.typed d a f) b (g.bare d' h') e = absurd (refuse h' (a .here) (sym (ident d d' e .ends)))
-  typed j (g.typed d a f) b (g.typed d' a' f') e =
+  typed j (g.bare d h) b (g.typed-ident d' a' f') e = absurd (refuse h (a' .here) (ident d d' e .ends))
+  typed j (g.typed-ident d a f) b (g.bare d' h') e = absurd (refuse h' (a .here) (sym (ident d d' e .ends)))
+  typed j (g.typed-ident d a f) b (g.typed-ident d' a' f') e =
       let r = ident d d' e in
       let t = plainly j b .agrees f' (step a a' (r .ends)) in
       record { ends = t .ends; shapes = λ x so i. couple node.TypedIdent (startOf (e i)) (t .ends i) (value r i) (value t i) }

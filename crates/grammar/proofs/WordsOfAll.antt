@@ -11,6 +11,7 @@ use Rattle.grammar.specs.Builders.{Shape, blank, only, more}
 use Rattle.grammar.specs.Shape.{shape}
 use Rattle.grammar.specs.Follows.{Follows, treeOf}
 use Rattle.grammar.specs.Words.{among, tokenWords, words}
+use Rattle.grammar.proofs.Levels.{some-level}
 use Rattle.grammar.proofs.WordsOfTokens.{operator-quiet, compound-quiet, significant-words}
 use Rattle.grammar.proofs.WordsOf.{Adds, still, _▹_, also, token, under}
 use Rattle.grammar.proofs.WordsOfSymbols.{from, begun, Silent}
@@ -48,7 +49,7 @@ adds (by.others a d b c e) s x so = under _ (token a refl ▹ adds d tt 0 blank 
 adds (by.no-type h) s x so = still
 adds (by.returned a d) s x so = token a refl ▹ adds d tt 0 blank
 adds (by.bare d h) s x so = adds d tt 0 blank
-adds (by.typed {x = y} d a e) s x so = under _ (adds d tt 0 blank ▹ token a refl ▹ also (begun y (adds e s 0 blank))) (refl, refl)
+adds (by.typed-ident {x = y} d a e) s x so = under _ (adds d tt 0 blank ▹ token a refl ▹ also (begun y (adds e s 0 blank))) (refl, refl)
 adds (by.params-of a d) s x so = token a refl ▹ adds d (tt, tt, refl) x so
 adds (by.closure-params a d) s x so = token a refl ▹ adds d (tt, tt, refl) x so
 -- patterns
@@ -58,7 +59,7 @@ adds (by.pattern-list a d) s x so = under _ (token a refl ▹ adds d (tt, tt, re
 adds (by.pattern-literal d) s x so = adds d tt 0 blank
 adds (by.pattern-pair d a e) s x so = under _ (adds d tt 0 blank ▹ token a refl ▹ also (adds e tt 0 blank)) (refl, refl)
 -- statements in a row
-adds (by.body-of a d) s x so = eols a ▹ adds d s x so
+adds (by.exprs-of a d) s x so = eols a ▹ adds d s x so
 adds (by.no-stmt a) s x so = token a s
 adds (by.last-stmt d a) s x so = also (adds d tt 0 blank) ▹ token a s
 adds (by.a-line d a b e) s x so = also (adds d tt 0 blank) ▹ token a refl ▹ eols b ▹ adds e s x (more so (shape d 0 blank))
@@ -80,7 +81,7 @@ adds (by.path-items d a b e) s x so = under _ (also (adds d tt 0 blank) ▹ toke
 adds (by.path-all d a b) s x so = under _ (also (adds d tt 0 blank) ▹ token a refl ▹ token b refl ▹ also still) (refl, refl)
 adds (by.item-alone d h) s x so = under _ (adds d tt 0 blank) (refl, refl)
 adds (by.item-as d a e) s x so = under _ (adds d tt 0 blank ▹ token a refl ▹ also (adds e tt 0 blank)) (refl, refl)
-adds (by.plain d h) s x so = adds d tt 0 blank
+adds (by.expr-stmt d h) s x so = adds d tt 0 blank
 adds (by.assign d f a e) s x so = under _ (adds d tt 0 blank ▹ token a refl ▹ also (adds e tt 0 blank)) (refl, refl)
 adds (by.typed-assign d a e b f) s x so = under _ (under _ (adds d tt 0 blank ▹ token a refl ▹ also (adds e tt 0 blank)) (refl, refl) ▹ token b refl ▹ also (adds f tt 0 blank)) (refl, refl)
 adds (by.op-assign d f c a e) s x so = under _ (adds d tt 0 blank ▹ token a (compound-quiet c) ▹ also (adds e tt 0 blank)) (refl, refl)
@@ -94,10 +95,10 @@ adds (by.a-right a d e) s x so = token a refl ▹ also (adds d tt 0 blank) ▹ a
 adds (by.expr-of d) s x so = adds d tt 0 blank
 adds (by.prec-of d e) s x so = adds d tt 0 blank ▹ adds e tt _ (shape d 0 blank)
 adds (by.no-op h) s x so = still
-adds (by.binary {k = k} l h a d e) s x so = token a (operator-quiet k l) ▹ under _ (also (adds d tt 0 blank)) (refl, refl) ▹ adds e tt x _
+adds (by.binary {k = k} l h a d e) s x so = token a (operator-quiet k (some-level e) l) ▹ under _ (also (adds d tt 0 blank)) (refl, refl) ▹ adds e tt x _
 adds {text = text} (by.type-check {word = word} {q = q} {r = r} l a c b e) s x so = token a refl ▹ checked-adds text q r x word c b ▹ adds e tt x _
-adds (by.negated a d) s x so = under _ (token a refl ▹ adds d tt 0 blank) (refl, refl)
-adds (by.minus a d) s x so = under _ (token a refl ▹ adds d tt 0 blank) (refl, refl)
+adds (by.not-expr a d) s x so = under _ (token a refl ▹ adds d tt 0 blank) (refl, refl)
+adds (by.neg-expr a d) s x so = under _ (token a refl ▹ adds d tt 0 blank) (refl, refl)
 adds (by.tried a d e) s x so = token a refl ▹ handlers-join (shape e 0 blank) (one-primary d 0 blank) (adds d tt 0 blank) (adds e tt 0 blank)
 adds (by.no-unary d) s x so = adds d tt 0 blank
 adds (by.last-handler d h) s x so = also (adds d tt 0 blank)
@@ -118,7 +119,7 @@ adds (by.bracket-meta a b c) s x so = token a refl ▹ token b refl ▹ token c 
 adds (by.dot-meta a b) s x so = token a refl ▹ token b refl
 adds (by.double-colon-meta a b) s x so = token a refl ▹ token b refl
 -- atoms
-adds (by.group a d b) s x so = under _ (token a refl ▹ adds d tt 0 blank ▹ token b refl) (refl, refl)
+adds (by.paren-expr a d b) s x so = under _ (token a refl ▹ adds d tt 0 blank ▹ token b refl) (refl, refl)
 adds (by.name d) s x so = adds d tt 0 blank
 adds (by.table a d) s x so = under _ (token a refl ▹ adds d (tt, tt, refl) 0 blank) (refl, refl)
 adds (by.block-expr a e h d) s x so = under _ (under _ (token a refl ▹ eols e ▹ adds d refl 0 blank) (refl, refl)) (refl, refl)
@@ -147,7 +148,7 @@ adds (by.last-pattern d h) s x so = also (adds d tt 0 blank)
 adds (by.more-patterns d a e) s x so = also (adds d tt 0 blank) ▹ token a refl ▹ adds e tt x (more so (shape d 0 blank))
 -- the properties of a table
 adds (by.property d e) s x so = under _ (adds d tt 0 blank ▹ also (adds e tt 0 blank)) (refl, refl)
-adds (by.group-key a d b c) s x so = under _ (token a refl ▹ adds d tt 0 blank ▹ token b refl) (refl, refl) ▹ token c refl
+adds (by.paren-key a d b c) s x so = under _ (token a refl ▹ adds d tt 0 blank ▹ token b refl) (refl, refl) ▹ token c refl
 adds (by.literal-key d a) s x so = adds d tt 0 blank ▹ token a refl
 
 pub words-all : {text tokens : List ℕ} (f : Follows text tokens) → words (treeOf f) ≡ tokenWords (tokensOf tokens)

@@ -34,7 +34,7 @@ one-name (by.an-ident a) x so = one _ _ tt
 
 pub one-atom : {text : List ℕ} {f : Form} {p q : Place} (d : Derives text (Atom f) p q) (x : ℕ) (so : Shape) → One f (shape d x so .row)
 unfolding shape
-one-atom (by.group a d b) x so = one _ _ tt
+one-atom (by.paren-expr a d b) x so = one _ _ tt
 one-atom (by.name d) x so = one-name d 0 blank
 one-atom (by.table a d) x so = one _ _ tt
 one-atom (by.block-expr a e h d) x so = one _ _ tt

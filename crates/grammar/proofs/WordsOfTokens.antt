@@ -1,5 +1,5 @@
 -- Which tokens are words: what a token list loses of its words where one token is taken, and that trivia are none.
-use Prim.Native.Nat.{ℕ, _<_}
+use Prim.Native.Nat.{ℕ, _<_, _≤_}
 use native.Mathlib.Omega.{arith}
 use mathlib.Core.Path.{_≡_, refl, sym, ap, _∙_}
 use mathlib.Core.List.{List, [], _∷_, _++_}
@@ -35,9 +35,9 @@ differs f a k (j ∷ js) same other = go (eqb k j) refl (differs f a k js (same 
     go false q e = e
 
 -- operators and trivia are no words, nor are the signs of compound assignments
-pub operator-quiet : {n : ℕ} (k : ℕ) → n < levelOf k → NoWord k
+pub operator-quiet : {n : ℕ} (k : ℕ) → 0 < n → n ≤ levelOf k → NoWord k
 unfolding levelOf binaryOf
-operator-quiet k l = differs levelOf 0 k wordKinds (refl, (refl, (refl, (refl, (refl, (refl, (refl, (refl, (refl, tt))))))))) (λ q. omega (arith, l, q))
+operator-quiet k i l = differs levelOf 0 k wordKinds (refl, (refl, (refl, (refl, (refl, (refl, (refl, (refl, (refl, tt))))))))) (λ q. omega (arith, i, l, q))
 
 trivia-quiet : (k : ℕ) → isTrivia k ≡ true → NoWord k
 unfolding isTrivia

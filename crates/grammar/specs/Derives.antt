@@ -1,7 +1,7 @@
 -- The grammar: `Derives text y p q` says that a y stands from place p to place q. docs/GRAMMAR.md has the same productions in a notation for
 -- readers. A production with more than its parts says what may or may not follow: `Here`, `Not`, `Free` look at the next token and take
 -- nothing. Such a condition stands where one text could be taken further, or in two ways; where the first tokens differ there is none.
-use Prim.Native.Nat.{ℕ, suc, _<_, _≤_}
+use Prim.Native.Nat.{ℕ, suc, _+_, _<_, _≤_}
 use mathlib.Core.Path.{_≡_}
 use mathlib.Core.List.{List, [], _∷_}
 use mathlib.Core.Bool.{Bool, true, false}
@@ -38,7 +38,7 @@ use Rattle.grammar.specs.Symbols.{
   Typed,
   Pattern,
   PatternPair,
-  Body,
+  Exprs,
   Stmts,
   Block,
   Stmt,
@@ -124,7 +124,7 @@ pub data Derives (text : List ℕ) : Sym → Place → Place → Type 0 where
   returned : {p q r : Place} → Tok kind.Arrow p q → Derives text Ty q r → Derives text Returns p r
   -- parse_typed_ident, and parse_atom_typed_ident where x is a type atom
   bare : {x : Sym} {p q : Place} → Derives text Ident p q → Not kind.Colon q → Derives text (Typed x) p q
-  typed : {x : Sym} {p q r s : Place} → Derives text Ident p q → Tok kind.Colon q r → Derives text x r s → Derives text (Typed x) p s
+  typed-ident : {x : Sym} {p q r s : Place} → Derives text Ident p q → Tok kind.Colon q r → Derives text x r s → Derives text (Typed x) p s
   -- parse_params and parse_closure_params
   params-of : {p q r : Place} → Tok kind.OpenParen p q → Derives text (Until (Typed Ty) (Rest (Typed Ty)) kind.CloseParen) q r → Derives text (Params false) p r
   closure-params : {p q r : Place} → Tok kind.VBar p q → Derives text (Until (Typed TyAtom) (Rest (Typed TyAtom)) kind.VBar) q r → Derives text (Params true) p r
@@ -135,12 +135,12 @@ pub data Derives (text : List ℕ) : Sym → Place → Place → Type 0 where
   pattern-literal : {p q : Place} → Derives text Lit p q → Derives text Pattern p q
   pattern-pair : {p q r s : Place} → Derives text Lit p q → Tok kind.Colon q r → Derives text Pattern r s → Derives text PatternPair p s
   -- parse_exprs: statements up to a kind, which is taken, each but the last one with an Eol behind it
-  body-of : {end : ℕ} {p q r : Place} → Derives text Eols p q → Derives text (Stmts end) q r → Derives text (Body end) p r
+  exprs-of : {end : ℕ} {p q r : Place} → Derives text Eols p q → Derives text (Stmts end) q r → Derives text (Exprs end) p r
   no-stmt : {end : ℕ} {p q : Place} → Tok end p q → Derives text (Stmts end) p q
   last-stmt : {end : ℕ} {p q r : Place} → Derives text Stmt p q → Tok end q r → Derives text (Stmts end) p r
   a-line : {end : ℕ} {p q r s t : Place} → Derives text Stmt p q → Tok kind.Eol q r → Derives text Eols r s → Derives text (Stmts end) s t → Derives text (Stmts end) p t
   -- parse_block
-  block-of : {p q r : Place} → Tok kind.OpenBrace p q → Derives text (Body kind.CloseBrace) q r → Derives text Block p r
+  block-of : {p q r : Place} → Tok kind.OpenBrace p q → Derives text (Exprs kind.CloseBrace) q r → Derives text Block p r
   -- parse_function, behind `fn`; a closure with its parameters
   function-of : {closure : Bool} {p q r s : Place} → Derives text (Params closure) p q → Derives text Returns q r → Derives text Block r s → Derives text (Function closure) p s
   -- parse_effect_stmt
@@ -162,32 +162,32 @@ pub data Derives (text : List ℕ) : Sym → Place → Place → Type 0 where
   item-as : {p q r s : Place} → Derives text Ident p q → Tok kind.As q r → Derives text Ident r s → Derives text ImportItem p s
   -- parse_stmt, its expressions and assignments. A Colon stands behind a plain name alone, and what is assigned to is a name or a member of
   -- a name without `?`
-  plain : {f : Form} {p q : Place} → Derives text (Prec 0 true f) p q → Free signs q → Derives text Stmt p q
-  assign : {f : Form} {p q r s : Place} → Derives text (Prec 0 true f) p q → Assignable f → Tok kind.Assign q r → Derives text (Expr true) r s → Derives text Stmt p s
-  typed-assign : {p q r s t u : Place} → Derives text (Prec 0 true Name) p q → Tok kind.Colon q r → Derives text Ty r s → Tok kind.Assign s t → Derives text (Expr true) t u → Derives text Stmt p u
-  op-assign : {f : Form} {k op : ℕ} {p q r s : Place} → Derives text (Prec 0 true f) p q → Assignable f → Compound k op → Tok k q r → Derives text (Expr true) r s → Derives text Stmt p s
+  expr-stmt : {f : Form} {p q : Place} → Derives text (Prec 1 true f) p q → Free signs q → Derives text Stmt p q
+  assign : {f : Form} {p q r s : Place} → Derives text (Prec 1 true f) p q → Assignable f → Tok kind.Assign q r → Derives text (Expr true) r s → Derives text Stmt p s
+  typed-assign : {p q r s t u : Place} → Derives text (Prec 1 true Name) p q → Tok kind.Colon q r → Derives text Ty r s → Tok kind.Assign s t → Derives text (Expr true) t u → Derives text Stmt p u
+  op-assign : {f : Form} {k op : ℕ} {p q r s : Place} → Derives text (Prec 1 true f) p q → Assignable f → Compound k op → Tok k q r → Derives text (Expr true) r s → Derives text Stmt p s
   -- several left sides: one value for all, where no comma follows it, or as many right sides
-  unpack : {f : Form} {n : ℕ} {p q r s t : Place} → Derives text (Prec 0 true f) p q → Assignable f → Derives text (Lefts (suc n)) q r → Tok kind.Assign r s → Derives text (Expr true) s t → Not kind.Comma t
+  unpack : {f : Form} {n : ℕ} {p q r s t : Place} → Derives text (Prec 1 true f) p q → Assignable f → Derives text (Lefts (suc n)) q r → Tok kind.Assign r s → Derives text (Expr true) s t → Not kind.Comma t
       → Derives text Stmt p t
-  multi : {f : Form} {n : ℕ} {p q r s t u : Place} → Derives text (Prec 0 true f) p q → Assignable f → Derives text (Lefts (suc n)) q r → Tok kind.Assign r s → Derives text (Expr true) s t
+  multi : {f : Form} {n : ℕ} {p q r s t u : Place} → Derives text (Prec 1 true f) p q → Assignable f → Derives text (Lefts (suc n)) q r → Tok kind.Assign r s → Derives text (Expr true) s t
       → Derives text (Rights (suc n)) t u → Derives text Stmt p u
   no-left : {p : Place} → Not kind.Comma p → Derives text (Lefts 0) p p
-  a-left : {f : Form} {n : ℕ} {p q r s : Place} → Tok kind.Comma p q → Derives text (Prec 0 true f) q r → Assignable f → Derives text (Lefts n) r s → Derives text (Lefts (suc n)) p s
+  a-left : {f : Form} {n : ℕ} {p q r s : Place} → Tok kind.Comma p q → Derives text (Prec 1 true f) q r → Assignable f → Derives text (Lefts n) r s → Derives text (Lefts (suc n)) p s
   no-right : {p : Place} → Derives text (Rights 0) p p
   a-right : {n : ℕ} {p q r s : Place} → Tok kind.Comma p q → Derives text (Expr true) q r → Derives text (Rights n) r s → Derives text (Rights (suc n)) p s
   -- parse_expr_with_option: an expression with operators of all levels
-  expr-of : {lambda : Bool} {f : Form} {p q : Place} → Derives text (Prec 0 lambda f) p q → Derives text (Expr lambda) p q
-  -- parse_expr_precedence: operators above level n, left to right; a right operand has those above its operator's level. Behind `is` stands one
-  -- token that names a type
+  expr-of : {lambda : Bool} {f : Form} {p q : Place} → Derives text (Prec 1 lambda f) p q → Derives text (Expr lambda) p q
+  -- parse_expr_precedence, called with n: operators of level n or higher, left to right; a right operand starts one level above its operator's.
+  -- Behind `is` stands one token that names a type. No level is below 0, so that nothing is derived for n = 0 (proofs/Levels.antt)
   prec-of : {n : ℕ} {lambda : Bool} {f g : Form} {p q r : Place} → Derives text (Unary lambda f) p q → Derives text (Ops n lambda f g) q r → Derives text (Prec n lambda g) p r
-  no-op : {n : ℕ} {lambda : Bool} {f : Form} {p : Place} → levelOf (kindOf p) ≤ n → Derives text (Ops n lambda f f) p p
-  binary : {n k : ℕ} {lambda : Bool} {f g h : Form} {p q r s : Place} → n < levelOf k → (k ≡ kind.Is → ⊥) → Tok k p q → Derives text (Prec (levelOf k) lambda h) q r → Derives text (Ops n lambda Other g) r s
+  no-op : {n : ℕ} {lambda : Bool} {f : Form} {p : Place} → levelOf (kindOf p) < n → Derives text (Ops n lambda f f) p p
+  binary : {n k : ℕ} {lambda : Bool} {f g h : Form} {p q r s : Place} → n ≤ levelOf k → (k ≡ kind.Is → ⊥) → Tok k p q → Derives text (Prec (levelOf k + 1) lambda h) q r → Derives text (Ops n lambda Other g) r s
       → Derives text (Ops n lambda f g) p s
-  type-check : {n word : ℕ} {lambda : Bool} {f g : Form} {p q r s : Place} → n < levelOf kind.Is → Tok kind.Is p q → checkedType text (kindOf q) (spanOf q) ≡ checked.Type word → after q ≡ r
+  type-check : {n word : ℕ} {lambda : Bool} {f g : Form} {p q r s : Place} → n ≤ levelOf kind.Is → Tok kind.Is p q → checkedType text (kindOf q) (spanOf q) ≡ checked.Type word → after q ≡ r
       → Derives text (Ops n lambda Other g) r s → Derives text (Ops n lambda f g) p s
   -- parse_expr_unary: `not`, `-` and `try` take a primary. `try` needs a final Call, and one handler or more, all that follow
-  negated : {lambda : Bool} {f : Form} {p q r : Place} → Tok kind.Not p q → Derives text (Primary lambda f) q r → Derives text (Unary lambda Other) p r
-  minus : {lambda : Bool} {f : Form} {p q r : Place} → Tok kind.Sub p q → Derives text (Primary lambda f) q r → Derives text (Unary lambda Other) p r
+  not-expr : {lambda : Bool} {f : Form} {p q r : Place} → Tok kind.Not p q → Derives text (Primary lambda f) q r → Derives text (Unary lambda Other) p r
+  neg-expr : {lambda : Bool} {f : Form} {p q r : Place} → Tok kind.Sub p q → Derives text (Primary lambda f) q r → Derives text (Unary lambda Other) p r
   tried : {lambda : Bool} {p q r s : Place} → Tok kind.Try p q → Derives text (Primary lambda Call) q r → Derives text Handlers r s → Derives text (Unary lambda Other) p s
   no-unary : {lambda : Bool} {f : Form} {p q : Place} → Derives text (Primary lambda f) p q → Derives text (Unary lambda f) p q
   last-handler : {p q : Place} → Derives text Handler p q → Not kind.With q → Derives text Handlers p q
@@ -212,10 +212,10 @@ pub data Derives (text : List ℕ) : Sym → Place → Place → Type 0 where
   double-colon-meta : {p q r : Place} → Tok kind.DoubleColon p q → Tok kind.Pound q r → Derives text (Member 5) p r
   -- parse_expr_atom: groups, names, tables, blocks, lists. What `{`, Eols and `}` stand for is a table, so a block here has something else behind its
   -- Eols; where a key and a Colon stand there it is no block either, since no statement starts so
-  group : {p q r s : Place} → Tok kind.OpenParen p q → Derives text (Expr true) q r → Tok kind.CloseParen r s → Derives text (Atom Other) p s
+  paren-expr : {p q r s : Place} → Tok kind.OpenParen p q → Derives text (Expr true) q r → Tok kind.CloseParen r s → Derives text (Atom Other) p s
   name : {p q : Place} → Derives text Ident p q → Derives text (Atom Name) p q
   table : {p q r : Place} → Tok kind.OpenBrace p q → Derives text (Until Property NoLast kind.CloseBrace) q r → Derives text (Atom Other) p r
-  block-expr : {p q r s : Place} → Tok kind.OpenBrace p q → Derives text Eols q r → Not kind.CloseBrace r → Derives text (Body kind.CloseBrace) r s → Derives text (Atom Other) p s
+  block-expr : {p q r s : Place} → Tok kind.OpenBrace p q → Derives text Eols q r → Not kind.CloseBrace r → Derives text (Exprs kind.CloseBrace) r s → Derives text (Atom Other) p s
   list : {p q r : Place} → Tok kind.OpenBracket p q → Derives text (Until (Expr true) NoLast kind.CloseBracket) q r → Derives text (Atom Other) p r
   atom-literal : {p q : Place} → Derives text Lit p q → Derives text (Atom Other) p q
   -- parse_expr_atom: functions without a name
@@ -247,5 +247,5 @@ pub data Derives (text : List ℕ) : Sym → Place → Place → Type 0 where
   more-patterns : {p q r s : Place} → Derives text Pattern p q → Tok kind.VBar q r → Derives text Patterns r s → Derives text Patterns p s
   -- parse_table_property and parse_table_key_and_colon
   property : {p q r : Place} → Derives text Key p q → Derives text (Expr true) q r → Derives text Property p r
-  group-key : {p q r s t : Place} → Tok kind.OpenParen p q → Derives text (Expr true) q r → Tok kind.CloseParen r s → Tok kind.Colon s t → Derives text Key p t
+  paren-key : {p q r s t : Place} → Tok kind.OpenParen p q → Derives text (Expr true) q r → Tok kind.CloseParen r s → Tok kind.Colon s t → Derives text Key p t
   literal-key : {p q r : Place} → Derives text Lit p q → Tok kind.Colon q r → Derives text Key p r

@@ -8,7 +8,7 @@ use Rattle.cursor.specs.Node as node
 use Rattle.cursor.specs.Tree.{Trees, tree}
 use Rattle.cursor.specs.Records.{flagged}
 use Rattle.grammar.specs.Places.{Place, before, opening}
-use Rattle.grammar.specs.Symbols.{Body}
+use Rattle.grammar.specs.Symbols.{Exprs}
 use Rattle.grammar.specs.Derives.{Derives}
 use Rattle.grammar.specs.Builders.{Shape, blank}
 use Rattle.grammar.specs.Shape.{shape}
@@ -16,7 +16,7 @@ use Rattle.grammar.specs.Shape.{shape}
 -- the tokens of a sheet that are no trivia are statements up to the end of input, and nothing is left of them
 pub record Follows (text tokens : List ℕ) : Type 0 where
   pub end : Place
-  pub body : Derives text (Body kind.Eof) (before tokens) end
+  pub body : Derives text (Exprs kind.Eof) (before tokens) end
   pub whole : end .rest ≡ []
 
 -- the program starts at the first token, trivia too, and ends where the last token ends that is none; a list of trivia only is an empty

@@ -72,7 +72,7 @@ shape (by.others {p = p} {u = u} a d b c e) x so = marked (couple node.TableTyOt
 shape (by.no-type h) x so = blank
 shape (by.returned a d) x so = shape d 0 blank
 shape (by.bare d h) x so = shape d 0 blank
-shape (by.typed {p = p} {s = s} d a e) x so = couple node.TypedIdent (startOf p) s (shape d 0 blank) (shape e 0 blank)
+shape (by.typed-ident {p = p} {s = s} d a e) x so = couple node.TypedIdent (startOf p) s (shape d 0 blank) (shape e 0 blank)
 shape (by.params-of a d) x so = shape d x so
 shape (by.closure-params a d) x so = shape d x so
 -- patterns
@@ -82,7 +82,7 @@ shape (by.pattern-list {p = p} {r = r} a d) x so = endedRow node.PatternList (st
 shape (by.pattern-literal d) x so = shape d 0 blank
 shape (by.pattern-pair {p = p} {s = s} d a e) x so = couple node.TablePatternPair (startOf p) s (shape d 0 blank) (shape e 0 blank)
 -- statements in a row. A block starts behind its brace
-shape (by.body-of a d) x so = shape d x so
+shape (by.exprs-of a d) x so = shape d x so
 shape (by.no-stmt a) x so = so
 shape (by.last-stmt d a) x so = more so (shape d 0 blank)
 shape (by.a-line d a b e) x so = shape e x (more so (shape d 0 blank))
@@ -104,7 +104,7 @@ shape (by.path-items {t = t} d a b e) x so = importOver x t (more so (shape d 0 
 shape (by.path-all {s = s} d a b) x so = importOver x s (more so (shape d 0 blank)) blank true true
 shape (by.item-alone {p = p} {q = q} d h) x so = over node.ImportItem (startOf p) q (shape d 0 blank)
 shape (by.item-as {p = p} {s = s} d a e) x so = made node.ImportItem (startOf p) s 0 0 (flagged 0 0 true false) (join (shape d 0 blank .row) (shape e 0 blank .row))
-shape (by.plain d h) x so = shape d 0 blank
+shape (by.expr-stmt d h) x so = shape d 0 blank
 shape (by.assign {p = p} {s = s} d f a e) x so = couple node.Assign (startOf p) s (shape d 0 blank) (shape e 0 blank)
 shape (by.typed-assign {p = p} {s = s} {u = u} d a e b f) x so = couple node.Assign (startOf p) u (couple node.TypedIdent (startOf p) s (shape d 0 blank) (shape e 0 blank)) (shape f 0 blank)
 shape (by.op-assign {op = op} {p = p} {s = s} d f c a e) x so = made node.AssignOp (startOf p) s op 0 0 (join (shape d 0 blank .row) (shape e 0 blank .row))
@@ -120,8 +120,8 @@ shape (by.prec-of {p = p} d e) x so = shape e (startOf p) (shape d 0 blank)
 shape (by.no-op h) x so = so
 shape (by.binary {k = k} {r = r} l h a d e) x so = shape e x (made node.Binary x r k 0 0 (join (so .row) (shape d 0 blank .row)))
 shape (by.type-check {word = word} {q = q} {r = r} l a c b e) x so = shape e x (made node.TypeCheck x r word (startOf q) 0 (so .row))
-shape (by.negated {p = p} {r = r} a d) x so = made node.Unary (startOf p) r kind.Not 0 0 (shape d 0 blank .row)
-shape (by.minus {p = p} {r = r} a d) x so = made node.Unary (startOf p) r kind.Sub 0 0 (shape d 0 blank .row)
+shape (by.not-expr {p = p} {r = r} a d) x so = made node.Unary (startOf p) r kind.Not 0 0 (shape d 0 blank .row)
+shape (by.neg-expr {p = p} {r = r} a d) x so = made node.Unary (startOf p) r kind.Sub 0 0 (shape d 0 blank .row)
 shape (by.tried a d e) x so = only (handled (shape d 0 blank .row) (shape e 0 blank))
 shape (by.no-unary d) x so = shape d 0 blank
 shape (by.last-handler d h) x so = more so (shape d 0 blank)
@@ -142,7 +142,7 @@ shape (by.bracket-meta a b c) x so = blank
 shape (by.dot-meta a b) x so = blank
 shape (by.double-colon-meta a b) x so = blank
 -- atoms. A block that is an expression starts behind its brace and Eols, the expression at the brace
-shape (by.group {p = p} {s = s} a d b) x so = over node.Paren (startOf p) s (shape d 0 blank)
+shape (by.paren-expr {p = p} {s = s} a d b) x so = over node.Paren (startOf p) s (shape d 0 blank)
 shape (by.name d) x so = shape d 0 blank
 shape (by.table {p = p} {r = r} a d) x so = rowOver node.Table (startOf p) r (shape d 0 blank)
 shape (by.block-expr {p = p} {r = r} {s = s} a e h d) x so = over node.ExprBlock (startOf p) s (rowOver node.Block (startOf r) s (shape d 0 blank))
@@ -171,5 +171,5 @@ shape (by.last-pattern d h) x so = more so (shape d 0 blank)
 shape (by.more-patterns d a e) x so = shape e x (more so (shape d 0 blank))
 -- the properties of a table. A key in parentheses ends before its colon
 shape (by.property {p = p} {r = r} d e) x so = couple node.TableProperty (startOf p) r (shape d 0 blank) (shape e 0 blank)
-shape (by.group-key {p = p} {s = s} a d b c) x so = over node.Paren (startOf p) s (shape d 0 blank)
+shape (by.paren-key {p = p} {s = s} a d b c) x so = over node.Paren (startOf p) s (shape d 0 blank)
 shape (by.literal-key d a) x so = shape d 0 blank

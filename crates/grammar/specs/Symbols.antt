@@ -19,7 +19,8 @@ pub data Assignable : Form → Type 0 where
   a-name : Assignable Name
   a-member : Assignable NameMember
 
--- A Bool says whether a trailing lambda is taken. A level of operators is the one that all operators have to be above.
+-- A Bool says whether a trailing lambda is taken. A level of operators, 1 or more, is the least that they may have: the number that
+-- parse_expr_precedence is called with.
 pub data Sym : Type 0 where
   -- helpers: all Eols here; a list of items behind its opening token, from behind its Eols on, with the symbols of an item and of a last
   -- item and the kind that closes it
@@ -36,14 +37,14 @@ pub data Sym : Type 0 where
   -- patterns
   Pattern PatternPair : Sym
   -- statements up to a kind: with the Eols before them, and from the first one on
-  Body Stmts : ℕ → Sym
+  Exprs Stmts : ℕ → Sym
   Block Stmt : Sym
   -- parts of statements: an effect; an import from its path on, and its items; further left sides, and right sides, so many of them
   Effect Path ImportItem : Sym
   Lefts Rights : ℕ → Sym
   -- parameters and functions; true for those of a closure
   Params Function : Bool → Sym
-  -- expressions: of any form; above a level; operators behind what is read already, from one form to another; unary forms
+  -- expressions: of any form; with operators of a level or higher; operators behind what is read already, from one form to another; unary forms
   Expr : Bool → Sym
   Prec : ℕ → Bool → Form → Sym
   Ops : ℕ → Bool → Form → Form → Sym

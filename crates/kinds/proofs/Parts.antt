@@ -11,7 +11,7 @@ use lib.ListN.{length, getD, drop, drop-of-length-le}
 use lib.Seq.{drop-cons, take-nil}
 use borrow.Author.Tests.{eqb-true, eq-eqb, ne-eqb}
 use Rattle.kinds.specs.Text.{part}
-use Rattle.kinds.specs.Spelling.{choose, equal}
+use Rattle.kinds.specs.Spelling.{whether, equal}
 
 -- nothing is left where the range has ended
 pub part-ended : (text : List ℕ) (start end : ℕ) → end ≤ start → part text start end ≡ []
@@ -37,7 +37,7 @@ equal-same [] (y ∷ b) e = cc
 equal-same (x ∷ a) [] e = cc
 equal-same (x ∷ a) (y ∷ b) e = go (eqb x y) refl e (equal-same a b)
   where
-    go : (t : Bool) → eqb x y ≡ t → choose t (equal a b) false ≡ true → (equal a b ≡ true → a ≡ b) → x ∷ a ≡ y ∷ b
+    go : (t : Bool) → eqb x y ≡ t → whether t (equal a b) false ≡ true → (equal a b ≡ true → a ≡ b) → x ∷ a ≡ y ∷ b
     go true h g rest = let p : x ≡ y = eqb-true x y h in let q : a ≡ b = rest g in cc
     go false h g rest = cc
 

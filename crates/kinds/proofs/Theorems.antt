@@ -18,7 +18,7 @@ use Rattle.kinds.specs.declared.types.ValueType.{ValueType}
 use Rattle.kinds.specs.declared.types.ValueType.the-variants as type
 use Rattle.kinds.specs.declared.types.TypeWord.the-variants.{Known, Unknown}
 use Rattle.kinds.specs.Number as kind
-use Rattle.kinds.specs.Spelling.{bytes, choose, equal}
+use Rattle.kinds.specs.Spelling.{bytes, whether, equal}
 use Rattle.kinds.specs.Kinds.{order, kindNumber, isTrivia}
 use Rattle.kinds.specs.Operators.{binaryOf, levelOf, opKind, caseOf}
 use Rattle.kinds.specs.Listing.{listingName, namePlace, nameBytes, nameAt}
@@ -207,7 +207,7 @@ word-in : (b : List ℕ) (v : ValueType) (ps : List (String × ValueType)) → w
 word-in b v [] e = let z : _≡_ {A = ℕ} 0 1 = cc in omega arith
 word-in b v (p ∷ ps) e = go (equal b (bytes (p .0))) refl e (word-in b v ps)
   where
-    go : (t : Bool) → equal b (bytes (p .0)) ≡ t → choose t (Known (p .1)) (wordIn b ps) ≡ Known v → (wordIn b ps ≡ Known v → IsWord b v ps) → IsWord b v (p ∷ ps)
+    go : (t : Bool) → equal b (bytes (p .0)) ≡ t → whether t (Known (p .1)) (wordIn b ps) ≡ Known v → (wordIn b ps ≡ Known v → IsWord b v ps) → IsWord b v (p ∷ ps)
     go true h g rest = inl (equal-same b (bytes (p .0)) h, cc)
     go false h g rest = inr (rest g)
 

@@ -5,7 +5,7 @@ use mathlib.Core.Bool.{Bool, true, false}
 use mathlib.Core.List.{List, [], _∷_}
 use lib.ListN.{getD}
 use lib.Text.{eqt}
-use Rattle.kinds.specs.Spelling.{choose}
+use Rattle.kinds.specs.Spelling.{whether}
 
 -- the kinds in the order in which token.rs declares them: a kind's number is its place here, counted from 0
 abbrev pub order : List String
@@ -98,7 +98,7 @@ kindName k = getD order k ""
 -- how many stand before a name in a list
 abbrev pub placeIn : String → List String → ℕ
 placeIn s [] = zero
-placeIn s (t ∷ ts) = choose (eqt s t) zero (suc (placeIn s ts))
+placeIn s (t ∷ ts) = whether (eqt s t) zero (suc (placeIn s ts))
 
 -- the number of the kind with a name
 abbrev pub kindNumber : String → ℕ
@@ -106,7 +106,7 @@ kindNumber s = placeIn s order
 
 abbrev pub among : String → List String → Bool
 among s [] = false
-among s (t ∷ ts) = choose (eqt s t) true (among s ts)
+among s (t ∷ ts) = whether (eqt s t) true (among s ts)
 
 -- the kinds that is_trivia of token.rs lists
 abbrev pub trivia : List String

@@ -7,7 +7,7 @@ use lib.ListN.{drop}
 use lib.Text.{eqt}
 use Rattle.kinds.specs.declared.operator.Operator.{Operator}
 use Rattle.kinds.specs.declared.operator.Operator.the-variants.{Binary, Nothing}
-use Rattle.kinds.specs.Spelling.{bytes, choose}
+use Rattle.kinds.specs.Spelling.{bytes, whether}
 use Rattle.kinds.specs.Kinds.{kindName}
 use Rattle.kinds.specs.Operators.{binary, compound, beside, caseOf}
 
@@ -33,7 +33,7 @@ operatorOr Nothing s = s
 
 abbrev pub leafOr : String → List (String × String) → String → String
 leafOr s [] other = other
-leafOr s (p ∷ ps) other = choose (eqt s (p .0)) (p .1) (leafOr s ps other)
+leafOr s (p ∷ ps) other = whether (eqt s (p .0)) (p .1) (leafOr s ps other)
 
 -- the listing name of a token kind, empty where it has none
 abbrev pub listed : String → String
@@ -86,7 +86,7 @@ nameBytes = bytes (spaced names)
 -- where a name starts in that row
 abbrev pub startIn : String → List String → ℕ
 startIn s [] = zero
-startIn s (t ∷ ts) = choose (eqt s t) zero (suc (len t) + startIn s ts)
+startIn s (t ∷ ts) = whether (eqt s t) zero (suc (len t) + startIn s ts)
 
 abbrev pub placeOf : String → ℕ
 placeOf s = startIn s names
@@ -97,7 +97,7 @@ namePlace k = placeOf (listingName k)
 -- what stands before the first space
 abbrev pub upToSpace : List ℕ → List ℕ
 upToSpace [] = []
-upToSpace (b ∷ rest) = choose (eqb b 32) [] (b ∷ upToSpace rest)
+upToSpace (b ∷ rest) = whether (eqb b 32) [] (b ∷ upToSpace rest)
 
 -- the name that starts at a place of the row
 unfoldable pub nameAt : ℕ → List ℕ

@@ -22,7 +22,7 @@ use Rattle.kinds.specs.declared.operator.BinOp.the-variants.{
 }
 use Rattle.kinds.specs.declared.operator.Operator.{Operator}
 use Rattle.kinds.specs.declared.operator.Operator.the-variants.{Binary, Nothing}
-use Rattle.kinds.specs.Spelling.{choose}
+use Rattle.kinds.specs.Spelling.{whether}
 use Rattle.kinds.specs.Kinds.{kindName, kindNumber}
 
 -- the token kinds that stand between two operands, each with its operator: the match of parse_expr_precedence
@@ -57,7 +57,7 @@ compound =
 -- the operator that stands beside a name
 abbrev pub beside : String → List (String × BinOp) → Operator
 beside s [] = Nothing
-beside s (p ∷ ps) = choose (eqt s (p .0)) (Binary (p .1)) (beside s ps)
+beside s (p ∷ ps) = whether (eqt s (p .0)) (Binary (p .1)) (beside s ps)
 
 unfoldable pub binaryOf : ℕ → Operator
 binaryOf k = beside (kindName k) binary

@@ -12,13 +12,13 @@ bytes end = []
 bytes (c then rest) = code c ∷ bytes rest
 
 -- the first where the test holds, the second where it fails
-abbrev pub choose : {A : Type 0} → Bool → A → A → A
-choose true a b = a
-choose false a b = b
+abbrev pub whether : {A : Type 0} → Bool → A → A → A
+whether true a b = a
+whether false a b = b
 
 -- whether two byte strings are the same: as many bytes, and the same one at each place
 unfoldable pub equal : List ℕ → List ℕ → Bool
 equal [] [] = true
 equal [] (b ∷ s) = false
 equal (a ∷ r) [] = false
-equal (a ∷ r) (b ∷ s) = choose (eqb a b) (equal r s) false
+equal (a ∷ r) (b ∷ s) = whether (eqb a b) (equal r s) false

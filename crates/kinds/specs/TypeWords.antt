@@ -18,7 +18,7 @@ use Rattle.kinds.specs.declared.types.ValueType.the-variants.{
 }
 use Rattle.kinds.specs.declared.types.TypeWord.{TypeWord}
 use Rattle.kinds.specs.declared.types.TypeWord.the-variants.{Known, Unknown}
-use Rattle.kinds.specs.Spelling.{bytes, choose, equal}
+use Rattle.kinds.specs.Spelling.{bytes, whether, equal}
 use Rattle.kinds.specs.Listing.{placeOf}
 
 -- the nine words, each with its type: the match of parse_expr_precedence, where null is told by its kind
@@ -38,7 +38,7 @@ words =
 -- the type whose word has just these bytes
 abbrev pub wordIn : List ℕ → List (String × ValueType) → TypeWord
 wordIn b [] = Unknown
-wordIn b (p ∷ ps) = choose (equal b (bytes (p .0))) (Known (p .1)) (wordIn b ps)
+wordIn b (p ∷ ps) = whether (equal b (bytes (p .0))) (Known (p .1)) (wordIn b ps)
 
 unfoldable pub typeWord : List ℕ → TypeWord
 typeWord b = wordIn b words

@@ -24,16 +24,18 @@ use Rattle.types.specs.Patterns as types-Patterns
 use Rattle.types.specs.Types as types-Types
 use Rattle.parts.specs.Effects as parts-Effects
 use Rattle.parts.specs.Imports as parts-Imports
+use Rattle.parts.specs.Members as parts-Members
 use Rattle.parts.specs.Records as parts-Records
 use Rattle.parts.specs.Recovery as parts-Recovery
 use Rattle.parts.specs.Steps as parts-Steps
 use Rattle.parts.specs.Until as parts-Until
 use Rattle.rules.specs.Atoms as rules-Atoms
 use Rattle.rules.specs.Blocks as rules-Blocks
-use Rattle.rules.specs.Body as rules-Body
+use Rattle.rules.specs.Exprs as rules-Exprs
 use Rattle.rules.specs.Functions as rules-Functions
 use Rattle.rules.specs.Inner as rules-Inner
 use Rattle.rules.specs.Levels as rules-Levels
+use Rattle.rules.specs.Placed as rules-Placed
 use Rattle.rules.specs.Precedence as rules-Precedence
 use Rattle.rules.specs.Primary as rules-Primary
 use Rattle.rules.specs.Statements as rules-Statements
@@ -55,19 +57,19 @@ unfolding entry-Check.badRange entry-Check.quoted entry-Check.marked entry-Check
 of-entry = 0
 
 unfoldable pub of-cursor : ℕ
-unfolding cursor-Attempts.attempt cursor-Attempts.recover cursor-Buffer.put cursor-Buffer.copy cursor-Checks.want cursor-Checks.check cursor-Checks.eat cursor-Checks.unexpectedAt cursor-Checks.unexpected cursor-Checks.expect cursor-Checks.eatRange cursor-Checks.pickFrom cursor-Records.write cursor-Records.append cursor-Records.add cursor-Records.reflag cursor-Records.writeError cursor-Records.log cursor-Rule.turns cursor-Rule.iterate cursor-Sheet.count cursor-Sheet.kindAt cursor-Sheet.rangeAt cursor-Tokens.pastFrom cursor-Tokens.pastTrivia cursor-Tokens.startRange cursor-Tokens.eatTrivia cursor-Tokens.bump cursor-Tokens.eolTurn cursor-Tokens.eatEol cursor-Tokens.rewind cursor-Tree.join cursor-Tree.size cursor-Tree.word cursor-Tree.label cursor-Tree.trees cursor-Tree.meaning
+unfolding cursor-Attempts.tryParse cursor-Attempts.recover cursor-Buffer.put cursor-Buffer.copy cursor-Checks.want cursor-Checks.check cursor-Checks.eat cursor-Checks.unexpectedAt cursor-Checks.unexpected cursor-Checks.expect cursor-Checks.eatRange cursor-Checks.choose cursor-Checks.pickFrom cursor-Records.write cursor-Records.append cursor-Records.add cursor-Records.reflag cursor-Records.writeError cursor-Records.log cursor-Rule.turns cursor-Rule.iterate cursor-Sheet.count cursor-Sheet.kindAt cursor-Sheet.rangeAt cursor-Tokens.pastFrom cursor-Tokens.pastTrivia cursor-Tokens.eatTrivia cursor-Tokens.bump cursor-Tokens.eolTurn cursor-Tokens.eatEol cursor-Tokens.rewind cursor-Tree.join cursor-Tree.size cursor-Tree.word cursor-Tree.label cursor-Tree.trees cursor-Tree.meaning
 of-cursor = 0
 
 unfoldable pub of-types : ℕ
-unfolding types-Items.start types-Items.close types-Items.pair types-Items.addSome types-Items.afterItem types-Items.oneItem types-Items.afterLast types-Items.lastItem types-Items.itemTurn types-Items.itemsUntilWithLast types-Lits.intLiteral types-Lits.literal types-Lits.litFrom types-Lits.litAt types-Lits.lit types-Lits.identAt types-Lits.ident types-Patterns.patternEnd types-Patterns.patternLast types-Patterns.tablePatternPair types-Patterns.patternItem types-Patterns.patternItems types-Patterns.patternEnded types-Patterns.patternRow types-Patterns.patternBy types-Patterns.pattern types-Patterns.patterns types-Types.typeLastKind types-Types.typeEnd types-Types.unionTurn types-Types.union types-Types.type types-Types.returns types-Types.named types-Types.typedIdent types-Types.tableTyPair types-Types.tableTyOther types-Types.typeItem types-Types.typeLastItem types-Types.typeLast types-Types.lastOf types-Types.typeItems types-Types.typeParen types-Types.typeTable types-Types.typeFunction types-Types.typeBy types-Types.typeAtom types-Types.atoms types-Types.params types-Types.closureParams
+unfolding types-Items.start types-Items.close types-Items.pair types-Items.addSome types-Items.afterItem types-Items.oneItem types-Items.afterLast types-Items.lastItem types-Items.itemTurn types-Items.itemsUntilWithLast types-Lits.intLiteral types-Lits.literal types-Lits.litFrom types-Lits.litAt types-Lits.lit types-Lits.identAt types-Lits.ident types-Patterns.patternEnd types-Patterns.patternLast types-Patterns.tablePatternPair types-Patterns.patternItem types-Patterns.patternItems types-Patterns.patternEnded types-Patterns.patternRow types-Patterns.pattern types-Patterns.patterns types-Types.typeLastKind types-Types.typeEnd types-Types.unionTurn types-Types.union types-Types.type types-Types.returns types-Types.named types-Types.typedIdent types-Types.tableTyPair types-Types.tableTyOther types-Types.typeItem types-Types.typeLastItem types-Types.typeLast types-Types.lastOf types-Types.typeItems types-Types.typeParen types-Types.typeTable types-Types.typeFunction types-Types.typeAtom types-Types.atoms types-Types.params types-Types.closureParams
 of-types = 0
 
 unfoldable pub of-parts : ℕ
-unfolding parts-Effects.effectRecord parts-Effects.effectStmt parts-Imports.importItem parts-Imports.importItems parts-Imports.importEnd parts-Imports.importTail parts-Imports.pathTurn parts-Imports.importStmt parts-Records.couple parts-Records.rowRecord parts-Records.listRecord parts-Records.wrapped parts-Records.blockRecord parts-Records.fnRecord parts-Records.functionRecord parts-Records.handlerRecord parts-Records.handlersFlagged parts-Records.ifRecord parts-Records.roundRecord parts-Records.callRecord parts-Records.memberRecord parts-Recovery.skipTurn parts-Recovery.skip parts-Recovery.skipped parts-Recovery.recovering parts-Recovery.logHere parts-Recovery.lineEnd parts-Recovery.afterStmt parts-Steps.itemsEnd parts-Steps.checkedType parts-Steps.anyParams parts-Steps.braced parts-Steps.noMember parts-Steps.metaEnd parts-Steps.litKey parts-Steps.parenKeyAt parts-Steps.parenKey parts-Steps.leaf parts-Steps.nameTurn parts-Steps.names parts-Steps.loopNames parts-Steps.patternTurn parts-Steps.casePatterns parts-Steps.typeChecked parts-Steps.typeCheckAt parts-Steps.typeCheck parts-Until.untilTurn parts-Until.itemsUntil
+unfolding parts-Effects.effectRecord parts-Effects.effectStmt parts-Imports.importItem parts-Imports.importItems parts-Imports.importSimple parts-Imports.importAlias parts-Imports.importNested parts-Imports.importGlob parts-Imports.importEnd parts-Imports.importTail parts-Imports.pathTurn parts-Imports.importStmt parts-Members.namedAt parts-Members.metaAt parts-Records.couple parts-Records.rowRecord parts-Records.listRecord parts-Records.wrapped parts-Records.blockRecord parts-Records.fnRecord parts-Records.functionRecord parts-Records.handlerRecord parts-Records.handlersFlagged parts-Records.ifRecord parts-Records.roundRecord parts-Records.callRecord parts-Records.memberRecord parts-Recovery.skipTurn parts-Recovery.skip parts-Recovery.skipped parts-Recovery.recovering parts-Recovery.logHere parts-Recovery.lineEnd parts-Recovery.afterStmt parts-Steps.itemsEnd parts-Steps.checkedType parts-Steps.anyParams parts-Steps.braced parts-Steps.noMember parts-Steps.metaMember parts-Steps.nameMember parts-Steps.litKey parts-Steps.parenKeyAt parts-Steps.parenKey parts-Steps.leaf parts-Steps.nameTurn parts-Steps.names parts-Steps.loopNames parts-Steps.patternTurn parts-Steps.casePatterns parts-Steps.typeChecked parts-Steps.typeCheckAt parts-Steps.typeCheck parts-Until.untilTurn parts-Until.itemsUntil
 of-parts = 0
 
 unfoldable pub of-exprs : ℕ
-unfolding rules-Atoms.group rules-Atoms.doFunction rules-Atoms.anonFunction rules-Atoms.anon rules-Atoms.alternate rules-Atoms.ifElse rules-Atoms.matchCase rules-Atoms.caseTurn rules-Atoms.cases rules-Atoms.loops rules-Atoms.form rules-Atoms.atom rules-Atoms.primary rules-Blocks.block rules-Blocks.andBlock rules-Body.stmtOr rules-Body.bodyTurn rules-Body.body rules-Functions.function rules-Functions.fnStmt rules-Inner.expr rules-Levels.knot rules-Levels.programRecord rules-Levels.program rules-Precedence.handler rules-Precedence.handlerTurn rules-Precedence.triedBy rules-Precedence.tried rules-Precedence.negated rules-Precedence.unary rules-Precedence.operated rules-Precedence.infixBy rules-Precedence.infixTurn rules-Precedence.precedence rules-Primary.member rules-Primary.access rules-Primary.call rules-Primary.postfixTurn rules-Primary.primaryOf rules-Statements.right rules-Statements.setTo rules-Statements.set rules-Statements.typed rules-Statements.leftOf rules-Statements.leftTurn rules-Statements.lefts rules-Statements.rightTurn rules-Statements.rights rules-Statements.multiTo rules-Statements.multi rules-Statements.assign rules-Statements.gloBy rules-Statements.glo rules-Statements.plain rules-Statements.functionStmt rules-Statements.stmt rules-Tables.key rules-Tables.property rules-Tables.item rules-Tables.itemsOf rules-Tables.table rules-Tables.braceBlock rules-Tables.tableOrBlock rules-Tables.brace
+unfolding rules-Atoms.parenExpr rules-Atoms.listExpr rules-Atoms.returnExpr rules-Atoms.fnExpr rules-Atoms.closureExpr rules-Atoms.doExpr rules-Atoms.alternate rules-Atoms.ifExpr rules-Atoms.matchCase rules-Atoms.caseTurn rules-Atoms.matchExpr rules-Atoms.loopExpr rules-Atoms.whileExpr rules-Atoms.forExpr rules-Atoms.breakExpr rules-Atoms.continueExpr rules-Atoms.atom rules-Atoms.primary rules-Blocks.block rules-Blocks.exprAndBlock rules-Exprs.stmtOr rules-Exprs.exprsTurn rules-Exprs.exprs rules-Functions.function rules-Functions.namedFunction rules-Inner.expr rules-Levels.knot rules-Levels.programRecord rules-Levels.program rules-Placed.member rules-Placed.group rules-Placed.doFunction rules-Placed.anonFunction rules-Placed.anon rules-Placed.loops rules-Placed.form rules-Precedence.handler rules-Precedence.handlerTurn rules-Precedence.triedBy rules-Precedence.tried rules-Precedence.unaryOp rules-Precedence.unary rules-Precedence.operated rules-Precedence.infixBy rules-Precedence.infixTurn rules-Precedence.precedence rules-Primary.bracketMember rules-Primary.dotMember rules-Primary.doubleColonMember rules-Primary.access rules-Primary.call rules-Primary.postfixTurn rules-Primary.primaryOf rules-Statements.right rules-Statements.setTo rules-Statements.set rules-Statements.typedAssign rules-Statements.leftOf rules-Statements.leftTurn rules-Statements.lefts rules-Statements.rightTurn rules-Statements.rights rules-Statements.multiTo rules-Statements.multi rules-Statements.assign rules-Statements.gloAssign rules-Statements.glo rules-Statements.plain rules-Statements.functionStmt rules-Statements.stmt rules-Tables.key rules-Tables.property rules-Tables.item rules-Tables.itemsOf rules-Tables.table rules-Tables.braceBlock rules-Tables.tableOrBlock rules-Tables.brace
 of-exprs = 0
 
 unfoldable pub of-parser : ℕ

@@ -72,7 +72,7 @@ few-items (by.others a d b z e) c x so = fresh (token a ▸ takes d ▸ token b 
 few-items (by.no-type h) c x so = fresh stays
 few-items (by.returned a d) c x so = anew (still (token a) ⊕ few-items d tt 0 blank)
 few-items (by.bare d h) c x so = anew (few-items d tt 0 blank)
-few-items (by.typed d a e) c x so = fresh (takes d ▸ token a ▸ takes e)
+few-items (by.typed-ident d a e) c x so = fresh (takes d ▸ token a ▸ takes e)
 few-items (by.params-of a d) c x so = still (token a) ⊕ few-items d refl x so
 few-items (by.closure-params a d) c x so = still (token a) ⊕ few-items d refl x so
 -- patterns
@@ -82,7 +82,7 @@ few-items (by.pattern-list a d) c x so = fresh (token a ▸ takes d)
 few-items (by.pattern-literal d) c x so = anew (few-items d tt 0 blank)
 few-items (by.pattern-pair d a e) c x so = fresh (takes d ▸ token a ▸ takes e)
 -- statements in a row
-few-items (by.body-of a d) c x so = still (takes a) ⊕ few-items d tt x so
+few-items (by.exprs-of a d) c x so = still (takes a) ⊕ few-items d tt x so
 few-items (by.no-stmt a) c x so = still (token a)
 few-items (by.last-stmt d a) c x so = plus (takes d ▸ token a)
 few-items (by.a-line d a b e) c x so = plus (takes d ▸ token a ▸ takes b) ⊕ few-items e tt x (more so (shape d 0 blank))
@@ -104,7 +104,7 @@ few-items (by.path-items d a b e) c x so = fresh (takes d ▸ token a ▸ token 
 few-items (by.path-all d a b) c x so = fresh (takes d ▸ token a ▸ token b)
 few-items (by.item-alone d h) c x so = fresh (takes d)
 few-items (by.item-as d a e) c x so = fresh (takes d ▸ token a ▸ takes e)
-few-items (by.plain d h) c x so = anew (few-items d tt 0 blank)
+few-items (by.expr-stmt d h) c x so = anew (few-items d tt 0 blank)
 few-items (by.assign d f a e) c x so = fresh (takes d ▸ token a ▸ takes e)
 few-items (by.typed-assign d a e b f) c x so = fresh (takes d ▸ token a ▸ takes e ▸ token b ▸ takes f)
 few-items (by.op-assign d f z a e) c x so = fresh (takes d ▸ token a ▸ takes e)
@@ -120,8 +120,8 @@ few-items (by.prec-of {p = p} d e) c x so = anew (few-items d tt 0 blank) ⊕ fe
 few-items (by.no-op h) c x so = still stays
 few-items (by.binary {k = k} {r = r} l z a d e) c x so = fresh (token a ▸ takes d) ⊕ few-items e tt x (made node.Binary x r k 0 0 (join (so .row) (shape d 0 blank .row)))
 few-items (by.type-check {word = word} {q = q} {r = r} l a z b e) c x so = fresh (token a ▸ step b) ⊕ few-items e tt x (made node.TypeCheck x r word (startOf q) 0 (so .row))
-few-items (by.negated a d) c x so = fresh (token a ▸ takes d)
-few-items (by.minus a d) c x so = fresh (token a ▸ takes d)
+few-items (by.not-expr a d) c x so = fresh (token a ▸ takes d)
+few-items (by.neg-expr a d) c x so = fresh (token a ▸ takes d)
 few-items (by.tried a d e) c x so = fresh (token a ▸ takes d ▸ takes e)
 few-items (by.no-unary d) c x so = anew (few-items d tt 0 blank)
 few-items (by.last-handler d h) c x so = plus (takes d)
@@ -142,7 +142,7 @@ few-items (by.bracket-meta a b z) c x so = fresh (token a ▸ token b ▸ token 
 few-items (by.dot-meta a b) c x so = fresh (token a ▸ token b)
 few-items (by.double-colon-meta a b) c x so = fresh (token a ▸ token b)
 -- atoms
-few-items (by.group a d b) c x so = fresh (token a ▸ takes d ▸ token b)
+few-items (by.paren-expr a d b) c x so = fresh (token a ▸ takes d ▸ token b)
 few-items (by.name d) c x so = anew (few-items d tt 0 blank)
 few-items (by.table a d) c x so = fresh (token a ▸ takes d)
 few-items (by.block-expr a e h d) c x so = fresh (token a ▸ takes e ▸ takes d)
@@ -171,5 +171,5 @@ few-items (by.last-pattern d h) c x so = plus (takes d)
 few-items (by.more-patterns d a e) c x so = plus (takes d ▸ token a) ⊕ few-items e tt x (more so (shape d 0 blank))
 -- the properties of a table
 few-items (by.property d e) c x so = fresh (takes d ▸ takes e)
-few-items (by.group-key a d b z) c x so = fresh (token a ▸ takes d ▸ token b ▸ token z)
+few-items (by.paren-key a d b z) c x so = fresh (token a ▸ takes d ▸ token b ▸ token z)
 few-items (by.literal-key d a) c x so = anew (few-items d tt 0 blank ⊕ still (token a))

@@ -56,7 +56,7 @@ tells (by.others a d b c e) g h x so = plain sort.ty-others refl (tells d tt (h 
 tells (by.no-type z) g h x so = none-yet
 tells (by.returned a d) g h x so = optional (tells d tt (h ⊳ token a) 0 blank)
 tells (by.bare d z) g h x so = wider (λ k o. sort.untyped o) (tells d tt h 0 blank)
-tells (by.typed {r = r} d a e) g h x so = plain sort.typed refl (tells d tt h 0 blank ▹ g .1 .value r blank (shape e 0 blank) (tells e (g .0) (h ⊳ takes d ⊳ token a) 0 blank))
+tells (by.typed-ident {r = r} d a e) g h x so = plain sort.typed refl (tells d tt h 0 blank ▹ g .1 .value r blank (shape e 0 blank) (tells e (g .0) (h ⊳ takes d ⊳ token a) 0 blank))
 tells (by.params-of a d) g h x so = tells d params (h ⊳ token a) x so
 tells (by.closure-params a d) g h x so = tells d closure-params (h ⊳ token a) x so
 -- patterns
@@ -66,7 +66,7 @@ tells (by.pattern-list a d) g h x so = counted (isEnded (shape d 0 blank .last))
 tells (by.pattern-literal d) g h x so = wider (λ k o. sort.pattern-literal o) (tells d tt h 0 blank)
 tells (by.pattern-pair d a e) g h x so = plain sort.pattern-pair refl (tells d tt h 0 blank ▹ tells e tt (h ⊳ takes d ⊳ token a) 0 blank)
 -- statements in a row
-tells (by.body-of a d) g h x so = tells d tt (h ⊳ takes a) x so
+tells (by.exprs-of a d) g h x so = tells d tt (h ⊳ takes a) x so
 tells (by.no-stmt a) g h x so = λ t. t
 tells (by.last-stmt d a) g h x so = λ t. longer t (tells d tt h 0 blank)
 tells (by.a-line d a b e) g h x so = λ t. tells e tt (h ⊳ takes d ⊳ token a ⊳ takes b) x (more so (shape d 0 blank)) (longer t (tells d tt h 0 blank))
@@ -88,7 +88,7 @@ tells (by.path-items d a b e) g h x so = λ o t. recorded false true sort.import
 tells (by.path-all d a b) g h x so = λ o t. counted true true sort.import-stmt (below (grown o (takes d))) refl (longer t (tells d tt h 0 blank) ▹ no-more)
 tells (by.item-alone d z) g h x so = plain sort.item refl (empty-behind (tells d tt h 0 blank) none-yet)
 tells (by.item-as d a e) g h x so = signed true false sort.item refl (tells d tt h 0 blank ▹ tells e tt (h ⊳ takes d ⊳ token a) 0 blank)
-tells (by.plain d z) g h x so = wider (λ k o. sort.an-expression o) (anyhow (tells d tt h 0 blank))
+tells (by.expr-stmt d z) g h x so = wider (λ k o. sort.an-expression o) (anyhow (tells d tt h 0 blank))
 tells (by.assign d f a e) g h x so = plain sort.assign refl (wider (λ k o. sort.a-left o) (as-left f (tells d tt h 0 blank)) ▹ tells e tt (h ⊳ takes d ⊳ token a) 0 blank)
 tells (by.typed-assign d a e b f) g h x so = plain sort.assign refl (plain sort.typed-left refl (name-of (tells d tt h 0 blank) ▹ tells e tt (h ⊳ takes d ⊳ token a) 0 blank) ▹ tells f tt (h ⊳ takes d ⊳ token a ⊳ takes e ⊳ token b) 0 blank)
 tells (by.op-assign d f c a e) g h x so = plain sort.assign-op refl (as-left f (tells d tt h 0 blank) ▹ tells e tt (h ⊳ takes d ⊳ token a) 0 blank)
@@ -108,8 +108,8 @@ tells (by.prec-of {p = p} d e) g h x so = tells e tt (h ⊳ takes d) (startOf p)
 tells (by.no-op z) g h x so = λ s. s
 tells (by.binary {k = k} {r = r} l z a d e) g h x so = λ s. tells e tt (h ⊳ token a ⊳ takes d) x (made node.Binary x r k 0 0 (join (so .row) (shape d 0 blank .row))) (as-other (plain sort.binary refl (anyhow s ▹ anyhow (tells d tt (h ⊳ token a) 0 blank))))
 tells (by.type-check {word = word} {q = q} {r = r} l a c b e) g h x so = λ s. tells e tt (h ⊳ token a ⊳ step b) x (made node.TypeCheck x r word (startOf q) 0 (so .row)) (as-other (plain sort.type-check refl (anyhow s)))
-tells (by.negated a d) g h x so = as-other (plain sort.unary refl (anyhow (tells d tt (h ⊳ token a) 0 blank)))
-tells (by.minus a d) g h x so = as-other (plain sort.unary refl (anyhow (tells d tt (h ⊳ token a) 0 blank)))
+tells (by.not-expr a d) g h x so = as-other (plain sort.unary refl (anyhow (tells d tt (h ⊳ token a) 0 blank)))
+tells (by.neg-expr a d) g h x so = as-other (plain sort.unary refl (anyhow (tells d tt (h ⊳ token a) 0 blank)))
 tells (by.tried a d e) g h x so = as-other (handlers-join (shape e 0 blank) (short e tt 0 blank (h ⊳ token a ⊳ takes d)) (tells d tt (h ⊳ token a) 0 blank) (tells e tt (h ⊳ token a ⊳ takes d) 0 blank none-yet))
 tells (by.no-unary d) g h x so = tells d tt h 0 blank
 tells (by.last-handler d z) g h x so = λ t. longer t (tells d tt h 0 blank)
@@ -130,7 +130,7 @@ tells (by.bracket-meta a b c) g h x so = (ltb-true _ _ refl, no-more)
 tells (by.dot-meta a b) g h x so = (ltb-true _ _ refl, no-more)
 tells (by.double-colon-meta a b) g h x so = (ltb-true _ _ refl, no-more)
 -- atoms
-tells (by.group a d b) g h x so = as-other (plain sort.paren refl (tells d tt (h ⊳ token a) 0 blank))
+tells (by.paren-expr a d b) g h x so = as-other (plain sort.paren refl (tells d tt (h ⊳ token a) 0 blank))
 tells (by.name d) g h x so = as-name (tells d tt h 0 blank)
 tells (by.table a d) g h x so = as-other (rowed sort.table (short d refl 0 blank (h ⊳ token a)) refl (tells d properties (h ⊳ token a) 0 blank refl none-yet))
 tells (by.block-expr a e z d) g h x so = as-other (plain sort.expr-block refl (rowed sort.block (short d tt 0 blank (h ⊳ token a ⊳ takes e)) refl (tells d tt (h ⊳ token a ⊳ takes e) 0 blank none-yet)))
@@ -159,5 +159,5 @@ tells (by.last-pattern d z) g h x so = λ t. longer t (tells d tt h 0 blank)
 tells (by.more-patterns d a e) g h x so = λ t. tells e tt (h ⊳ takes d ⊳ token a) x (more so (shape d 0 blank)) (longer t (tells d tt h 0 blank))
 -- the properties of a table
 tells (by.property d e) g h x so = plain sort.property refl (tells d tt h 0 blank ▹ tells e tt (h ⊳ takes d) 0 blank)
-tells (by.group-key a d b c) g h x so = plain sort.key-group refl (tells d tt (h ⊳ token a) 0 blank)
+tells (by.paren-key a d b c) g h x so = plain sort.key-group refl (tells d tt (h ⊳ token a) 0 blank)
 tells (by.literal-key d a) g h x so = wider (λ k o. sort.key-literal o) (tells d tt h 0 blank)

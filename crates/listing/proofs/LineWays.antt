@@ -10,6 +10,7 @@ use lib.Seq.{drop-cons, take-nil}
 use borrow.Author.Tests.{eq-eqb, ne-eqb}
 use Rattle.kinds.specs.Spelling.{bytes}
 use Rattle.cursor.specs.declared.Label.{Label}
+use Rattle.cursor.specs.Layout.{CLASS, FOUND, ERROR-START, ERROR-END, KINDS-FROM, KINDS-COUNT}
 use Rattle.listing.specs.declared.names.Word.{Word}
 use Rattle.listing.specs.declared.names.Word.the-variants.{At, Nothing}
 use Rattle.listing.specs.Page.{Page, emits}
@@ -75,7 +76,7 @@ module _ (p : Page) (class what : ℕ) where
 
 pub error-line :
     (p : Page) (errors expected : List ℕ) (i : ℕ) {p1 p2 p3 p4 p5 p6 : Page} {class what start end from count : ℕ} →
-    class ≡ errorWord errors i 0 → what ≡ errorWord errors i 1 → start ≡ errorWord errors i 2 → end ≡ errorWord errors i 3 → from ≡ errorWord errors i 4 → count ≡ errorWord errors i 5 →
+    class ≡ errorWord errors i CLASS → what ≡ errorWord errors i FOUND → start ≡ errorWord errors i ERROR-START → end ≡ errorWord errors i ERROR-END → from ≡ errorWord errors i KINDS-FROM → count ≡ errorWord errors i KINDS-COUNT →
     p1 ≡ emits (bytes "error") p → p2 ≡ emits (fields (found class what)) p1 → p3 ≡ emits (fields (decimal start ∷ [])) p2 → p4 ≡ emits (fields (decimal end ∷ [])) p3 →
     p5 ≡ emits (fields (map decimal (take count (drop from expected)))) p4 → p6 ≡ emits (10 ∷ []) p5 → p6 ≡ emits (errorLine errors expected i) p
 unfolding errorLine

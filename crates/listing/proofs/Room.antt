@@ -1,6 +1,6 @@
 -- How long a listing can be: its lines are bounded, and so are their numbers.
 -- Assumes nothing.
-use mathlib.Core.Path.{_≡_, refl, _∙_}
+use mathlib.Core.Path.{_≡_, refl}
 use mathlib.Core.Bool.{Bool, true, false}
 use mathlib.Core.List.{List, [], _∷_, _++_, map}
 use Prim.Native.Nat.{ℕ, zero, suc, _+_, _-_, _*_, _/_, _%_, _^_, _<_, _≤_, min}
@@ -10,13 +10,13 @@ use native.Mathlib.Omega.{arith}
 use lib.Dec.{T, leb, leb→le, ltb, eqb}
 use lib.ListN.{length, getD, take, drop, length-append, length-take, length-drop, List·getD-eq-default}
 use borrow.Author.Tests.{ltb-true, ltb-false}
-use Rattle.kinds.specs.Spelling.{bytes, choose}
+use Rattle.kinds.specs.Spelling.{bytes, whether}
 use Rattle.kinds.specs.Listing.{listingName}
 use Rattle.kinds.specs.TypeWords.{typeNames}
 use Rattle.kinds.proofs.Every.{every, at}
 use Rattle.kinds.proofs.Rest.{past}
 use Rattle.cursor.specs.declared.Label.{Label}
-use Rattle.cursor.specs.Layout.{FIRST, NEXT}
+use Rattle.cursor.specs.Layout.{FIRST, NEXT, CLASS, FOUND, ERROR-START, ERROR-END, KINDS-FROM, KINDS-COUNT, errorCell}
 use Rattle.cursor.specs.Tree.{word, label, trees, meaning}
 use Rattle.listing.specs.declared.list.Counts.{Counts}
 use Rattle.listing.specs.Decimal.{decimal, integer}
@@ -66,7 +66,7 @@ type-short k = elim (decLt k 10) [
 ]
 
 -- what holds of both holds of the one that is chosen
-either : {A : Type 0} (P : A → Type 0) (b : Bool) (x y : A) → P x → P y → P (choose b x y)
+either : {A : Type 0} (P : A → Type 0) (b : Bool) (x y : A) → P x → P y → P (whether b x y)
 either P true x y p q = p
 either P false x y p q = q
 
@@ -220,14 +220,14 @@ two-length x y fs = simp length-append (omega arith)
 pub error-length : (errors expected : List ℕ) (i : ℕ) → Words errors → Bytes expected → length (errorLine errors expected i) ≤ 43 + 4 * length expected
 unfolding errorLine
 error-length errors expected i w b =
-    let f = found-length (errorWord errors i 0) (errorWord errors i 1) (w .at _) in
-    let s = decimal-length 9 (errorWord errors i 2) (omega (arith, w .at (6 * i + 2))) in
-    let e = decimal-length 9 (errorWord errors i 3) (omega (arith, w .at (6 * i + 3))) in
+    let f = found-length (errorWord errors i CLASS) (errorWord errors i FOUND) (w .at _) in
+    let s = decimal-length 9 (errorWord errors i ERROR-START) (omega (arith, w .at (errorCell i ERROR-START))) in
+    let e = decimal-length 9 (errorWord errors i ERROR-END) (omega (arith, w .at (errorCell i ERROR-END))) in
     let ks : List ℕ = kindsOf errors expected i in
-    let k = kinds-length ks (each-take (errorWord errors i 5) _ (each-drop (errorWord errors i 4) expected (each expected (b .at)))) in
-    let t = length-take (errorWord errors i 5) (drop (errorWord errors i 4) expected) in
-    let d = length-drop (errorWord errors i 4) expected in
-    let r = two-length (decimal (errorWord errors i 2)) (decimal (errorWord errors i 3)) (map decimal ks) in
+    let k = kinds-length ks (each-take (errorWord errors i KINDS-COUNT) _ (each-drop (errorWord errors i KINDS-FROM) expected (each expected (b .at)))) in
+    let t = length-take (errorWord errors i KINDS-COUNT) (drop (errorWord errors i KINDS-FROM) expected) in
+    let d = length-drop (errorWord errors i KINDS-FROM) expected in
+    let r = two-length (decimal (errorWord errors i ERROR-START)) (decimal (errorWord errors i ERROR-END)) (map decimal ks) in
     simp (fields-append, length-append) (omega arith)
 
 pub errors-length : (errors expected : List ℕ) (i k : ℕ) → Words errors → Bytes expected → length (errorsFrom errors expected i k) ≤ (43 + 4 * length expected) * k

@@ -3,10 +3,10 @@ use Prim.Native.Nat.{ℕ, _+_, _*_, _^_}
 use mathlib.Core.List.{List, [], _∷_, _++_, map}
 use lib.Dec.{eqb}
 use lib.ListN.{getD, take, drop}
-use Rattle.kinds.specs.Spelling.{bytes, choose}
+use Rattle.kinds.specs.Spelling.{bytes, whether}
 use Rattle.cursor.specs.declared.Label.{Label}
 use Rattle.cursor.specs.Node as node
-use Rattle.cursor.specs.Layout.{errorCell}
+use Rattle.cursor.specs.Layout.{CLASS, FAULTY-INT, FOUND, ERROR-START, ERROR-END, KINDS-FROM, KINDS-COUNT, errorCell}
 use Rattle.listing.specs.Decimal.{decimal, integer}
 use Rattle.listing.specs.Names.{recordName, detailName}
 
@@ -21,7 +21,7 @@ line f fs = f ++ (fields fs ++ (10 ∷ []))
 
 -- an integer's value, an operator or a checked type; others have no detail
 unfoldable pub detail : Label → List (List ℕ)
-detail l = choose (eqb (l .kind) node.Int) (integer (l .one + 2 ^ 32 * l .two) ∷ []) (detailName (l .kind) (l .one))
+detail l = whether (eqb (l .kind) node.Int) (integer (l .one + 2 ^ 32 * l .two) ∷ []) (detailName (l .kind) (l .one))
 
 -- level, kind, start, end, detail
 unfoldable pub nodeLine : ℕ → Label → List ℕ
@@ -29,7 +29,7 @@ nodeLine level l = line (decimal level) (recordName (l .kind) ∷ decimal (l .st
 
 -- the token kind that was found, or `int` and an integer's fault
 unfoldable pub found : ℕ → ℕ → List (List ℕ)
-found class what = choose (eqb class 1) (bytes "int" ∷ decimal what ∷ []) (decimal what ∷ [])
+found class what = whether (eqb class FAULTY-INT) (bytes "int" ∷ decimal what ∷ []) (decimal what ∷ [])
 
 -- word k of error record i
 abbrev pub errorWord : List ℕ → ℕ → ℕ → ℕ
@@ -37,13 +37,13 @@ errorWord errors i k = getD errors (errorCell i k) 0
 
 -- the kinds that error record i lists, as many as the expected buffer has
 abbrev pub kindsOf : List ℕ → List ℕ → ℕ → List ℕ
-kindsOf errors expected i = take (errorWord errors i 5) (drop (errorWord errors i 4) expected)
+kindsOf errors expected i = take (errorWord errors i KINDS-COUNT) (drop (errorWord errors i KINDS-FROM) expected)
 
 -- `error`, what was found, start, end, expected kinds
 unfoldable pub errorLine : List ℕ → List ℕ → ℕ → List ℕ
 errorLine errors expected i =
     line (bytes "error")
-    (found (errorWord errors i 0) (errorWord errors i 1) ++ (decimal (errorWord errors i 2) ∷ decimal (errorWord errors i 3) ∷ map decimal (kindsOf errors expected i)))
+    (found (errorWord errors i CLASS) (errorWord errors i FOUND) ++ (decimal (errorWord errors i ERROR-START) ∷ decimal (errorWord errors i ERROR-END) ∷ map decimal (kindsOf errors expected i)))
 
 -- answer, readings, node records, errors
 unfoldable pub firstLine : ℕ → ℕ → ℕ → List ℕ

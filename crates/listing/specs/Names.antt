@@ -5,7 +5,7 @@ use mathlib.Core.List.{List, [], _∷_, _++_}
 use lib.Dec.{eqb}
 use lib.ListN.{getD, drop}
 use Rattle.kinds.specs.Number as kind
-use Rattle.kinds.specs.Spelling.{bytes, choose}
+use Rattle.kinds.specs.Spelling.{bytes, whether}
 use Rattle.kinds.specs.Listing.{listingName, spaced, nameBytes, upToSpace}
 use Rattle.kinds.specs.TypeWords.{typeNames}
 use Rattle.cursor.specs.Node as node
@@ -76,7 +76,7 @@ recordName k = bytes (getD recordNames k "")
 
 -- UnOp's cases, by the operator's token kind
 unfoldable pub unaryName : ℕ → List ℕ
-unaryName op = choose (eqb op kind.Not) (bytes "Not") (choose (eqb op kind.Sub) (bytes "Neg") [])
+unaryName op = whether (eqb op kind.Not) (bytes "Not") (whether (eqb op kind.Sub) (bytes "Neg") [])
 
 -- BinOp's cases, by the operator's token kind
 unfoldable pub binaryName : ℕ → List ℕ
@@ -89,10 +89,10 @@ typeName n = bytes (getD typeNames n "")
 -- the name that a record of a kind, with a word of its own, has as its detail: the operator or the checked type; others have none
 unfoldable pub detailName : ℕ → ℕ → List (List ℕ)
 detailName k one =
-    choose (eqb k node.Unary) (unaryName one ∷ [])
-    (choose (eqb k node.Binary) (binaryName one ∷ [])
-    (choose (eqb k node.AssignOp) (binaryName one ∷ [])
-    (choose (eqb k node.TypeCheck) (typeName one ∷ [])
+    whether (eqb k node.Unary) (unaryName one ∷ [])
+    (whether (eqb k node.Binary) (binaryName one ∷ [])
+    (whether (eqb k node.AssignOp) (binaryName one ∷ [])
+    (whether (eqb k node.TypeCheck) (typeName one ∷ [])
     [])))
 
 -- the names that the token kinds lack, in the order in which they are kept

@@ -12,54 +12,59 @@ use Rattle.cursor.specs.declared.Span.{Span}
 use Rattle.cursor.specs.declared.Ranged.the-variants as ranged
 use Rattle.cursor.specs.Node as node
 use Rattle.cursor.specs.Sheet.{kindAt, rangeAt}
+use Rattle.cursor.specs.Rule.{Rule}
 use Rattle.cursor.specs.Records.{noKids}
 use Rattle.types.specs.Patterns.{spanOf}
 use Rattle.parts.specs.declared.values.Expr.{Expr}
 use Rattle.parts.specs.declared.values.Expr.the-variants as exprs
 use Rattle.parts.specs.Values.{linkOf, rowOf}
-use Rattle.parts.specs.Steps.{alone}
+use Rattle.parts.specs.Steps.{Elements, alone}
 use Rattle.rules.specs.Inner.{Inner}
 use Rattle.rules.specs.Primary.{primaryOf}
-use Rattle.rules.specs.Atoms.{atomChain, group, doFunction, anonFunction, anon, alternate, ifElse, matchCase, caseTurn, cases, form, atom, primary}
-use Rattle.rules.specs.Atoms as atoms
-use Rattle.rules.specs.Precedence.{unaryChain, handler, handlerTurn, triedBy, tried, negated, unary, operated, infixBy, infixTurn, precedence}
-use Rattle.live.proofs.Live.{Adds, Takes, Turns, adds, takes, fits, gives, stops, ifs}
+use Rattle.rules.specs.Atoms.{parenExpr, listExpr, returnExpr, fnExpr, closureExpr, doExpr, alternate, ifExpr, matchCase, caseTurn, matchExpr, loopExpr, whileExpr, forExpr, breakExpr, continueExpr, name, other, atom, primary}
+use Rattle.rules.specs.Precedence.{handler, handlerTurn, triedBy, tried, unaryOp, unary, operated, infixBy, infixTurn, precedence}
+use Rattle.live.proofs.Live.{well, then, Adds, Takes, Turns, adds, takes, fits, gives, stops, ifs}
 use Rattle.live.proofs.Together.{binds, onto, after, loops}
-use Rattle.live.proofs.Cursor.{asks, bump-bounded, check-bounded, eat-bounded, expect-bounded, pick-bounded, eat-eol-bounded, add-bounded}
+use Rattle.live.proofs.Cursor.{asks, bump-bounded, check-bounded, eat-bounded, expect-bounded, otherwise, _&_, chooses, eat-eol-bounded, add-bounded}
 use Rattle.live.proofs.Items.{start-bounded, close-bounded, lit-bounded, ident-bounded}
 use Rattle.live.proofs.Types.{params-bounded}
-use Rattle.live.proofs.Parts.{fail-with-bounded, couple-bounded, row-record-bounded, list-record-bounded, fn-record-bounded, handler-record-bounded, handlers-flagged-bounded, if-record-bounded, round-record-bounded, leaf-bounded, loop-names-bounded, case-patterns-bounded, type-check-bounded}
+use Rattle.live.proofs.Parts.{fail-with-bounded, couple-bounded, row-record-bounded, list-record-bounded, fn-record-bounded, handler-record-bounded, handlers-flagged-bounded, if-record-bounded, names-bounded, case-patterns-bounded, type-check-bounded}
 use Rattle.live.proofs.Handed.{Handed, expr-bounded}
 use Rattle.live.proofs.Exprs.{block-bounded, and-block-bounded, function-bounded, items-of-bounded, brace-bounded, postfix-turn-bounded}
 
 module _ {r : Inner} {N : ℕ} (x : Handed r N) where
   -- atoms
-  group-bounded : (from which : ℕ) → Takes (r .sheet) N 0 34 42 112 (group r from which)
-  unfolding group
-  group-bounded from which =
-      takes (after bump-bounded (λ _. ifs (eqb which 3)
-      (binds (items-of-bounded x 1 noKids) (λ i. list-record-bounded node.List from i))
-      (after (expr-bounded x true) (λ link. ifs (eqb which 14) (close-bounded node.Return from 0 0 0 link) (after (expect-bounded kind.CloseParen) (λ _. close-bounded node.Paren from 0 0 0 link)))))) refl refl refl refl
+  paren-bounded : (from : ℕ) → Takes (r .sheet) N 0 0 42 112 (parenExpr r from)
+  unfolding parenExpr
+  paren-bounded from = takes (onto bump-bounded (λ _. onto (expr-bounded x true) (λ link. after (expect-bounded kind.CloseParen) (λ _. close-bounded node.Paren from 0 0 0 link)))) refl refl refl refl
 
-  do-function-bounded : (from : ℕ) → Takes (r .sheet) N 1 36 36 112 (doFunction r from)
-  unfolding doFunction
-  do-function-bounded from = takes (after (block-bounded x 0) (λ body. close-bounded node.Do from 0 0 0 body)) refl refl refl refl
+  list-bounded : (from : ℕ) → Takes (r .sheet) N 0 34 42 112 (listExpr r from)
+  unfolding listExpr
+  list-bounded from = takes (after bump-bounded (λ _. binds (items-of-bounded x Elements noKids) (λ i. list-record-bounded node.List from i))) refl refl refl refl
 
-  anon-function-bounded : (from which : ℕ) → Takes (r .sheet) N 1 36 42 112 (anonFunction r from which)
-  unfolding anonFunction
-  anon-function-bounded from which = takes (ifs (eqb which 5) (function-bounded x from true) (onto bump-bounded (λ _. ifs (eqb which 4) (function-bounded x from false) (do-function-bounded from)))) refl refl refl refl
+  return-bounded : (from : ℕ) → Takes (r .sheet) N 0 32 42 112 (returnExpr r from)
+  unfolding returnExpr
+  return-bounded from = takes (onto bump-bounded (λ _. after (expr-bounded x true) (λ link. close-bounded node.Return from 0 0 0 link))) refl refl refl refl
 
-  anon-bounded : (from which : ℕ) → Takes (r .sheet) N 1 36 42 112 (anon r from which)
-  unfolding anon
-  anon-bounded from which = takes (after (anon-function-bounded from which) (λ f. fn-record-bounded from ranged.Nowhere 0 f)) refl refl refl refl
+  fn-bounded : (from : ℕ) → Takes (r .sheet) N 0 36 42 112 (fnExpr r from)
+  unfolding fnExpr
+  fn-bounded from = takes (onto bump-bounded (λ _. after (function-bounded x from false) (λ f. fn-record-bounded from ranged.Nowhere 0 f))) refl refl refl refl
+
+  closure-bounded : (from : ℕ) → Takes (r .sheet) N 1 36 42 112 (closureExpr r from)
+  unfolding closureExpr
+  closure-bounded from = takes (after (function-bounded x from true) (λ f. fn-record-bounded from ranged.Nowhere 0 f)) refl refl refl refl
+
+  do-bounded : (from : ℕ) → Takes (r .sheet) N 0 36 36 112 (doExpr r from)
+  unfolding doExpr
+  do-bounded from = takes (onto bump-bounded (λ _. after (block-bounded x 0) (λ body. binds (close-bounded node.Do from 0 0 0 body) (λ f. fn-record-bounded from ranged.Nowhere 0 f)))) refl refl refl refl
 
   alternate-bounded : Takes (r .sheet) N 20 36 42 112 (alternate r)
   unfolding alternate
   alternate-bounded = takes (binds (check-bounded kind.If) (λ again. ifs again (expr-bounded x true) (block-bounded x node.ExprBlock))) refl refl refl refl
 
-  if-else-bounded : (from : ℕ) → Takes (r .sheet) N 0 37 42 112 (ifElse r from)
-  unfolding ifElse
-  if-else-bounded from = takes (onto bump-bounded (λ _. after (and-block-bounded x noKids) (λ kids. asks (eat-bounded kind.Else) (after alternate-bounded (λ a. if-record-bounded from kids a)) (if-record-bounded from kids 0)))) refl refl refl refl
+  if-bounded : (from : ℕ) → Takes (r .sheet) N 0 37 42 112 (ifExpr r from)
+  unfolding ifExpr
+  if-bounded from = takes (onto bump-bounded (λ _. after (and-block-bounded x noKids) (λ kids. asks (eat-bounded kind.Else) (after alternate-bounded (λ a. if-record-bounded from kids a)) (if-record-bounded from kids 0)))) refl refl refl refl
 
   match-case-bounded : Takes (r .sheet) N 5 32 42 112 (matchCase r)
   unfolding matchCase
@@ -70,35 +75,58 @@ module _ {r : Inner} {N : ℕ} (x : Handed r N) where
   unfolding caseTurn
   case-turn-bounded kids = fits (asks (eat-bounded kind.CloseBrace) gives (binds eat-eol-bounded (λ _. after match-case-bounded (λ c. binds eat-eol-bounded (λ _. binds (add-bounded kids c) (λ longer. gives)))))) refl refl refl refl refl
 
-  cases-bounded : (from : ℕ) → Takes (r .sheet) N 0 38 42 112 (cases r from)
-  unfolding cases
-  cases-bounded from =
+  match-bounded : (from : ℕ) → Takes (r .sheet) N 0 38 42 112 (matchExpr r from)
+  unfolding matchExpr
+  match-bounded from =
       takes (onto bump-bounded (λ _. onto (expr-bounded x false) (λ link. after (expect-bounded kind.OpenBrace) (λ _. binds (loops case-turn-bounded (r .sheet) (rowOf link)) (λ row. close-bounded node.Match from 0 0 _ (row .first)))))) refl refl refl refl
 
-  loops-bounded : (from which : ℕ) → Takes (r .sheet) N 0 36 42 112 (atoms.loops r from which)
-  unfolding atoms.loops
-  loops-bounded from which =
-      takes (after bump-bounded (λ _. ifs (eqb which 9)
-      (after (block-bounded x 0) (λ body. close-bounded node.Loop from 0 0 0 body))
-      (binds (loop-names-bounded which) (λ names. after (and-block-bounded x names) (λ kids. round-record-bounded from which (names .count) kids))))) refl refl refl refl
+  loop-bounded : (from : ℕ) → Takes (r .sheet) N 0 36 36 112 (loopExpr r from)
+  unfolding loopExpr
+  loop-bounded from = takes (onto bump-bounded (λ _. after (block-bounded x 0) (λ body. close-bounded node.Loop from 0 0 0 body))) refl refl refl refl
 
-  form-bounded : (from which : ℕ) → Takes (r .sheet) N 1 38 42 112 (form r from which)
-  unfolding form
-  form-bounded from which =
-      takes (ifs (eqb which 0) (group-bounded from which)
-      (ifs (eqb which 1) ident-bounded
-      (ifs (eqb which 2) (brace-bounded x from)
-      (ifs (eqb which 3) (group-bounded from which)
-      (ifs (ltb which 7) (anon-bounded from which)
-      (ifs (eqb which 7) (if-else-bounded from)
-      (ifs (eqb which 8) (cases-bounded from)
-      (ifs (ltb which 12) (loops-bounded from which)
-      (ifs (ltb which 14) (leaf-bounded from which)
-      (ifs (eqb which 14) (group-bounded from which) lit-bounded)))))))))) refl refl refl refl
+  while-bounded : (from : ℕ) → Takes (r .sheet) N 0 36 42 112 (whileExpr r from)
+  unfolding whileExpr
+  while-bounded from = takes (onto bump-bounded (λ _. after (and-block-bounded x noKids) (λ kids. close-bounded node.While from 0 0 0 (kids .first)))) refl refl refl refl
+
+  for-bounded : (from : ℕ) → Takes (r .sheet) N 0 36 42 112 (forExpr r from)
+  unfolding forExpr
+  for-bounded from =
+      takes (onto bump-bounded (λ _. binds names-bounded (λ row. onto (expect-bounded kind.In) (λ _. after (and-block-bounded x row) (λ kids. close-bounded node.For from 0 0 _ (kids .first)))))) refl refl refl refl
+
+  break-bounded : (from : ℕ) → Takes (r .sheet) N 0 0 0 0 (breakExpr r from)
+  unfolding breakExpr
+  break-bounded from = takes (after bump-bounded (λ _. close-bounded node.Break from 0 0 0 0)) refl refl refl refl
+
+  continue-bounded : (from : ℕ) → Takes (r .sheet) N 0 0 0 0 (continueExpr r from)
+  unfolding continueExpr
+  continue-bounded from = takes (after bump-bounded (λ _. close-bounded node.Continue from 0 0 0 0)) refl refl refl refl
+
+  -- an atom as an expression
+  as-name : {a m f j : ℕ} {read : Rule ℕ} → Takes (r .sheet) N a m f j read → Takes (r .sheet) N a m f j (name r read)
+  as-name h = record { ends = λ s w g o t. then (h .ends s w g o t) (λ _ z. z) (λ s1 w1 link z. well z) }
+
+  as-other : {a m f j : ℕ} {read : Rule ℕ} → Takes (r .sheet) N a m f j read → Takes (r .sheet) N a m f j (other r read)
+  as-other h = record { ends = λ s w g o t. then (h .ends s w g o t) (λ _ z. z) (λ s1 w1 link z. well z) }
 
   atom-bounded : Takes (r .sheet) N 16 38 42 112 (atom r)
   unfolding atom
-  atom-bounded = takes (binds start-bounded (λ from. binds (pick-bounded atomChain 0) (λ which. after (form-bounded from which) (λ link. gives)))) refl refl refl refl
+  atom-bounded =
+      takes (binds start-bounded (λ from. chooses (as-other (paren-bounded from)
+      & as-name ident-bounded
+      & as-other (brace-bounded x from)
+      & as-other (list-bounded from)
+      & as-other (fn-bounded from)
+      & as-other (closure-bounded from)
+      & as-other (do-bounded from)
+      & as-other (if-bounded from)
+      & as-other (match-bounded from)
+      & as-other (loop-bounded from)
+      & as-other (while-bounded from)
+      & as-other (for-bounded from)
+      & as-other (break-bounded from)
+      & as-other (continue-bounded from)
+      & as-other (return-bounded from)
+      & otherwise (as-other lit-bounded)))) refl refl refl refl
 
   primary-bounded : (lambda : Bool) → Takes (r .sheet) N 16 44 44 112 (primary r lambda)
   unfolding primary primaryOf
@@ -108,7 +136,7 @@ module _ {r : Inner} {N : ℕ} (x : Handed r N) where
   handler-bounded : Takes (r .sheet) N 1 36 42 112 (handler r)
   unfolding handler
   handler-bounded =
-      takes (binds start-bounded (λ from. onto (expect-bounded kind.With) (λ _. onto ident-bounded (λ name. onto (params-bounded (x .atom) (rowOf name)) (λ i. after (block-bounded x 0) (λ body. handler-record-bounded from i body)))))) refl refl refl refl
+      takes (binds start-bounded (λ from. onto (expect-bounded kind.With) (λ _. onto ident-bounded (λ name. onto (params-bounded (x .typeAtom) (rowOf name)) (λ i. after (block-bounded x 0) (λ body. handler-record-bounded from i body)))))) refl refl refl refl
 
   handler-turn-bounded : (kids : Kids) → Turns (r .sheet) N 1 37 37 42 112 (handlerTurn r kids)
   unfolding handlerTurn
@@ -125,14 +153,13 @@ module _ {r : Inner} {N : ℕ} (x : Handed r N) where
   unfolding tried
   tried-bounded lambda = takes (record { ends = λ s w h g t. onto bump-bounded (λ _. after (primary-bounded lambda) (λ a. tried-by-bounded (spanOf (rangeAt (r .sheet .tokens) (s .at))) a)) .ends s w h g t }) refl refl refl refl
 
-  negated-bounded : (from : ℕ) (lambda : Bool) → Takes (r .sheet) N 0 44 44 112 (negated r from lambda)
-  unfolding negated
-  negated-bounded from lambda = takes (record { ends = λ s w h g t. onto bump-bounded (λ _. after (primary-bounded lambda) (λ a. binds (close-bounded node.Unary from (kindAt (r .sheet .tokens) (s .at)) 0 0 (linkOf a)) (λ link. gives))) .ends s w h g t }) refl refl refl refl
+  unary-op-bounded : (from : ℕ) (lambda : Bool) → Takes (r .sheet) N 0 44 44 112 (unaryOp r from lambda)
+  unfolding unaryOp
+  unary-op-bounded from lambda = takes (record { ends = λ s w h g t. onto bump-bounded (λ _. after (primary-bounded lambda) (λ a. binds (close-bounded node.Unary from (kindAt (r .sheet .tokens) (s .at)) 0 0 (linkOf a)) (λ link. gives))) .ends s w h g t }) refl refl refl refl
 
   unary-bounded : (lambda : Bool) → Takes (r .sheet) N 19 45 45 112 (unary r lambda)
   unfolding unary
-  unary-bounded lambda =
-      takes (binds start-bounded (λ from. binds (pick-bounded unaryChain 0) (λ which. ifs (eqb which 2) (tried-bounded lambda) (ifs (ltb 2 which) (primary-bounded lambda) (negated-bounded from lambda))))) refl refl refl refl
+  unary-bounded lambda = takes (binds start-bounded (λ from. chooses (unary-op-bounded from lambda & unary-op-bounded from lambda & tried-bounded lambda & otherwise (primary-bounded lambda)))) refl refl refl refl
 
   operated-bounded : (from : ℕ) (lambda : Bool) (a : Expr) (k level : ℕ) → Turns (r .sheet) N 19 32 32 42 112 (operated r from lambda a k level)
   unfolding operated

@@ -4,25 +4,24 @@
 use mathlib.Core.Path.{_≡_, refl, sym, ap, _∙_, subst}
 use mathlib.Core.List.{List, [], _∷_}
 use mathlib.Core.Bool.{Bool, true, false}
-use Prim.Native.Nat.{ℕ, zero, suc, _+_, _-_, _<_, _≤_}
-use native.Mathlib.Nat.{le-trans}
+use Prim.Native.Nat.{ℕ, zero, suc, _+_, _-_, _≤_}
+use native.Mathlib.Nat.{le-refl, le-trans}
 use native.Mathlib.Omega.{arith}
-use lib.Dec.{ltb}
 use lib.ListN.{length}
-use borrow.Author.Tests.{ltb-true}
 use Rattle.kinds.specs.Number as kind
 use Rattle.cursor.specs.declared.State.{State}
 use Rattle.cursor.specs.declared.Kids.{Kids}
 use Rattle.cursor.specs.Sheet.{Sheet, count, kindAt}
 use Rattle.cursor.specs.Rule.{World, Rule, _>>=_, give, ifSo, Next, more, stop, next, turns, iterate}
 use Rattle.cursor.specs.Tokens.{pastTrivia, eatTrivia, eolTurn, eatEol}
-use Rattle.cursor.specs.Checks.{liveRoom, pickFrom}
+use Rattle.cursor.specs.Checks.{liveRoom, Case, _⇒_, choose}
 use Rattle.cursor.specs.Attempts.{unbuilt, recover}
 use Rattle.cursor.specs.Records.{noKids}
-use Rattle.parts.specs.Recovery.{skipTurn, skip, skipped, afterStmt}
+use Rattle.cursor.proofs.Chosen.{kindsOf, Every, all, _&_, each}
+use Rattle.parts.specs.Recovery.{skipCases, skipTurn, skip, skipped, afterStmt}
 use Rattle.rules.specs.Inner.{Inner}
-use Rattle.rules.specs.Body.{stmtOr, bodyTurn, body}
-use Rattle.live.proofs.Live.{Ends, well, branch, weaken, then, either, Settled, settled-by, Kept, fresh, same, at-most, Adds, adds}
+use Rattle.rules.specs.Exprs.{stmtOr, exprsTurn, exprs}
+use Rattle.live.proofs.Live.{Ends, well, weaken, then, either, Settled, settled-by, Kept, fresh, same, at-most, Adds, adds}
 use Rattle.live.proofs.Together.{binds}
 use Rattle.live.proofs.Cursor.{calm-past, Checked, found, other, check-tells, bump-tells, eols-bounded, eat-eol-bounded, log-still}
 use Rattle.live.proofs.Lines.{Eaten, ate, missed, After, closed, over, lined, unlined, stands, eat-tells, after-stmt-tells}
@@ -43,34 +42,21 @@ data Skipped (end k : ℕ) (s s1 : State) : Type 0 where
   some : s1 .live ≤ 3 → Skipped end k s s1
   nothing : (None k (ends-at end) → ⊥) → s1 .at ≡ s .at → s1 .live ≤ s .live + 3 → Skipped end k s s1
 
-one-more : (n m : ℕ) {a b : ℕ} → a ≤ b + m → b ≤ n + 1 → a ≤ n + suc m
-one-more n m p q = omega arith
+-- how a rule ends that begins at the place i with at most n kinds on the list
+abbrev From : {A : Type 0} (P : State → A → Type 0) (i n : ℕ) → Rule A → Type 0
+From P i n r = (s : State) (w : World) → s .at ≡ i → s .live ≤ n → Ends P (λ _. ⊥) (r s w)
 
 module _ (e : Sheet) where
-  -- a chain of tests: where none of its kinds stands here its answer is past them
-  pick-tells : {k : ℕ} (ks : List ℕ) (i : ℕ) (s : State) (w : World) → kindAt (e .tokens) (s .at) ≡ k → s .live + length ks ≤ liveRoom
-      → Ends (λ s1 j. (s1 .at ≡ s .at) × (s1 .live ≤ s .live + length ks) × (None k ks → j ≡ i + length ks)) (λ _. ⊥) (pickFrom e ks i s w)
-  unfolding pickFrom
-  pick-tells [] i s w q g = well (refl, no-longer (s .live), λ _. at-end i)
+  -- a chain of checks: the way of a kind that stands here, or the other rule where none of its kinds does
+  choose-tells : {A : Type 0} {P : State → A → Type 0} {i k n : ℕ} (cases : List (Case A)) {other : Rule A} → kindAt (e .tokens) i ≡ k → n ≤ liveRoom → Every (λ r. (None k (kindsOf cases) → ⊥) → From P i n r) cases → (None k (kindsOf cases) → From P i n other)
+      → (s : State) (w : World) → s .at ≡ i → s .live + length cases ≤ n → Ends P (λ _. ⊥) (choose e cases other s w)
+  unfolding choose
+  choose-tells [] q g all x s w t l = x tt s w t (omega arith)
+  choose-tells {P = P} {i} {k} {n} ((c ⇒ r) ∷ cases) {other = or} q g (h & hs) x s w t l = then (check-tells e c s w (stands e t q) (omega arith)) (λ _ z. z) (λ s1 w1 b z. by s1 w1 b z (choose-tells cases q g (each (λ _ f m. f (λ o. m (o .1))) cases hs)))
     where
-      no-longer : (n : ℕ) → n ≤ n + 0
-      no-longer n = omega arith
-
-      at-end : (i : ℕ) → i ≡ i + 0
-      at-end i = omega arith
-  pick-tells {k} (c ∷ ks) i s w q g = then (check-tells e c s w q (omega arith)) (λ _ z. z) (λ s1 w1 b z. by s1 w1 b z (λ r t. pick-tells ks (i + 1) s1 w1 r t))
-    where
-      shift : (i n : ℕ) → i + 1 + n ≡ i + suc n
-      shift i n = omega arith
-
-      no-shorter : (n m : ℕ) {a : ℕ} → a ≤ n → a ≤ n + m
-      no-shorter n m p = omega arith
-
-      by : (s1 : State) (w1 : World) (b : Bool) → Checked k c s s1 b
-          → (kindAt (e .tokens) (s1 .at) ≡ k → s1 .live + length ks ≤ liveRoom → Ends (λ s2 j. (s2 .at ≡ s1 .at) × (s2 .live ≤ s1 .live + length ks) × (None k ks → j ≡ i + 1 + length ks)) (λ _. ⊥) (pickFrom e ks (i + 1) s1 w1))
-          → Ends (λ s2 j. (s2 .at ≡ s .at) × (s2 .live ≤ s .live + length (c ∷ ks)) × (None k (c ∷ ks) → j ≡ i + length (c ∷ ks))) (λ _. ⊥) (ifSo (give i) (pickFrom e ks (i + 1)) b s1 w1)
-      by s1 w1 true (found p t l) f = well (t, no-shorter (s .live) (suc (length ks)) l, λ n. absurd (n .0 p))
-      by s1 w1 false (other p t l) f = weaken (f (stands e t q) (omega arith)) (λ s2 j z. (z .0 ∙ t, one-more (s .live) (length ks) (z .1) l, λ n. z .2 (n .1) ∙ shift i (length ks))) (λ _ z. z)
+      by : (s1 : State) (w1 : World) (b : Bool) → Checked k c s s1 b → ((None k (kindsOf cases) → From P i n or) → (s : State) (w : World) → s .at ≡ i → s .live + length cases ≤ n → Ends P (λ _. ⊥) (choose e cases or s w)) → Ends P (λ _. ⊥) (ifSo r (choose e cases or) b s1 w1)
+      by s1 w1 true (found p u o) f = h (λ m. m .0 p) s1 w1 (u ∙ t) (omega arith)
+      by s1 w1 false (other p u o) f = f (λ m. x (p, m)) s1 w1 (u ∙ t) (omega arith)
 
   -- a turn of skipping stops at one of the kinds, or passes a token
   data Skips (end k : ℕ) (s s1 : State) : Next (Unit {0}) → Type 0 where
@@ -80,11 +66,10 @@ module _ (e : Sheet) where
   skip-turn-tells : {k : ℕ} (end : ℕ) (x : Unit {0}) (s : State) (w : World) → kindAt (e .tokens) (s .at) ≡ k → Settled e s → s .live + 3 ≤ liveRoom → Ends (λ s1 n. Settled e s1 × Skips end k s s1 n) (λ _. ⊥) (skipTurn e end x s w)
   unfolding skipTurn
   skip-turn-tells {k} end x s w q h g =
-      then (pick-tells (ends-at end) 0 s w q g) (λ _ z. z)
-      (λ s1 w1 j z. branch (ltb j 3) (λ p. well (settled-by (z .0) h, halts (λ n. past j (ltb-true j 3 p) (z .2 n)) (z .0) (z .1))) (λ _. then (bump-tells e s1 w1 (settled-by (z .0) h)) (λ _ u. u) (λ s2 w2 _ u. well (u .0, passes (u .1)))))
+      choose-tells (skipCases e end) q g (halt & halt & halt & all) (λ _ s1 w1 t l. then (bump-tells e s1 w1 (settled-by t h)) (λ _ u. u) (λ s2 w2 _ u. well (u .0, passes (u .1)))) s w refl (le-refl _)
     where
-      past : (j : ℕ) → j < 3 → j ≡ 0 + 3 → ⊥
-      past j l q = omega arith
+      halt : (None k (ends-at end) → ⊥) → From (λ s1 n. Settled e s1 × Skips end k s s1 n) (s .at) (s .live + 3) (give (stop tt))
+      halt m s1 w1 t l = well (settled-by t h, halts m t l)
 
   skips-on : (end n : ℕ) (x : Unit {0}) (s : State) (w : World) → Settled e s → s .live ≤ 0 → Ends (λ s1 _. Settled e s1 × (s1 .live ≤ 3)) (λ _. ⊥) (turns (skipTurn e end) n x s w)
   unfolding turns
@@ -138,8 +123,8 @@ module _ {r : Inner} {N : ℕ} (x : Handed r N) (room : N + 112 ≤ liveRoom) wh
       by s1 s2 s3 p l (fresh o) (nothing n t u) = given-up (λ m. n (subst (λ i. None (kindAt (r .sheet .tokens) i) (ends-at end)) t m)) (fresh (omega arith))
       by s1 s2 s3 p l (same v o) (nothing n t u) = given-up (λ m. n (subst (λ i. None (kindAt (r .sheet .tokens) i) (ends-at end)) t m)) (same (t ∙ p ∙ v) (omega arith))
 
-  pub body-turn-tells : (end : ℕ) (kids : Kids) (s : State) (w : World) → Settled (r .sheet) s → s .live + 30 ≤ liveRoom → Ends (λ s1 n. Settled (r .sheet) s1 × Turned (r .sheet) N s s1 n) (λ _. ⊥) (bodyTurn r end kids s w)
-  unfolding bodyTurn
+  pub body-turn-tells : (end : ℕ) (kids : Kids) (s : State) (w : World) → Settled (r .sheet) s → s .live + 30 ≤ liveRoom → Ends (λ s1 n. Settled (r .sheet) s1 × Turned (r .sheet) N s s1 n) (λ _. ⊥) (exprsTurn r end kids s w)
+  unfolding exprsTurn
   body-turn-tells end kids s w h g = then (eat-tells (r .sheet) end s w refl h (omega arith)) (λ _ z. z) (λ s1 w1 b z. by s1 w1 b z)
     where
       -- behind the statement, from s1 on
@@ -164,7 +149,7 @@ module _ {r : Inner} {N : ℕ} (x : Handed r N) (room : N + 112 ≤ liveRoom) wh
           (λ s2 w2 link z. weaken (after-stmt-tells (r .sheet) end kids link s2 w2 refl (z .0) (few s1 s2 l (z .1))) (λ s3 n u. (u .0, joins s1 s2 s3 n t l (z .1) (u .1))) (λ _ u. u))
 
   -- turn after turn, where one went on
-  rows-on : (end n : ℕ) (kids : Kids) (s : State) (w : World) → Settled (r .sheet) s → Open (r .sheet) N s → Ends (λ s1 _. Settled (r .sheet) s1 × (s1 .live ≤ N + 46)) (λ _. ⊥) (turns (bodyTurn r end) n kids s w)
+  rows-on : (end n : ℕ) (kids : Kids) (s : State) (w : World) → Settled (r .sheet) s → Open (r .sheet) N s → Ends (λ s1 _. Settled (r .sheet) s1 × (s1 .live ≤ N + 46)) (λ _. ⊥) (turns (exprsTurn r end) n kids s w)
   unfolding turns
   rows-on end zero kids s w h o = well (h, at-worst o)
     where
@@ -184,26 +169,26 @@ module _ {r : Inner} {N : ℕ} (x : Handed r N) (room : N + 112 ≤ liveRoom) wh
       by on s s1 w1 (stop y) (high m l) h (stops-at-end p t n) = absurd (m p)
 
 module _ {r : Inner} {N : ℕ} (x : Handed r N) where
-  rows-bounded : (end : ℕ) (kids : Kids) → Adds (r .sheet) N 30 46 0 112 (iterate (r .sheet) (bodyTurn r end) kids)
+  rows-bounded : (end : ℕ) (kids : Kids) → Adds (r .sheet) N 30 46 0 112 (iterate (r .sheet) (exprsTurn r end) kids)
   unfolding iterate turns
   rows-bounded end kids = record { ends = λ s w h g t. then (body-turn-tells x t end kids s w h g) (λ _ z. absurd z) (λ s1 w1 y z. by t (count (r .sheet .tokens) - s .at) s s1 w1 y (z .0) (z .1)) }
     where
-      by : N + 112 ≤ liveRoom → (n : ℕ) (s s1 : State) (w1 : World) (y : Next Kids) → Settled (r .sheet) s1 → Turned (r .sheet) N s s1 y → Ends (λ s2 _. Settled (r .sheet) s2 × Kept N s s2 30 0 46 false) (λ s2. Settled (r .sheet) s2 × Kept N s s2 30 0 0 false) (next (turns (bodyTurn r end) n) y s1 w1)
+      by : N + 112 ≤ liveRoom → (n : ℕ) (s s1 : State) (w1 : World) (y : Next Kids) → Settled (r .sheet) s1 → Turned (r .sheet) N s s1 y → Ends (λ s2 _. Settled (r .sheet) s2 × Kept N s s2 30 0 46 false) (λ s2. Settled (r .sheet) s2 × Kept N s s2 30 0 0 false) (next (turns (exprsTurn r end) n) y s1 w1)
       by t n s s1 w1 (more y) h (goes p) = weaken (rows-on x t end n y s1 w1 h p) (λ s2 _ z. (z .0, fresh (z .1))) (λ _ z. absurd z)
       by t n s s1 w1 (stop y) h (stops-low l) = well (h, fresh l)
       by t n s s1 w1 (stop y) h (stops-at-end p q l) = well (h, same q (le-trans l (omega arith)))
 
   -- from behind the trivia on
-  rest-bounded : (end : ℕ) → Adds (r .sheet) N 30 46 30 112 (iterate (r .sheet) (eolTurn (r .sheet)) tt >>= (λ _. iterate (r .sheet) (bodyTurn r end) noKids))
+  rest-bounded : (end : ℕ) → Adds (r .sheet) N 30 46 30 112 (iterate (r .sheet) (eolTurn (r .sheet)) tt >>= (λ _. iterate (r .sheet) (exprsTurn r end) noKids))
   rest-bounded end = adds (binds (eols-bounded tt) (λ _. rows-bounded end noKids)) refl refl refl refl
 
-  pub body-bounded : (end : ℕ) → Adds (r .sheet) N 30 46 30 112 (body r end)
-  unfolding body
+  pub body-bounded : (end : ℕ) → Adds (r .sheet) N 30 46 30 112 (exprs r end)
+  unfolding exprs
   body-bounded end = adds (binds eat-eol-bounded (λ _. rows-bounded end noKids)) refl refl refl refl
 
   -- wherever they begin
-  pub body-anywhere : (end : ℕ) (s : State) (w : World) → s .live + 30 ≤ liveRoom → N + 112 ≤ liveRoom → Ends (λ s1 _. s1 .live ≤ liveRoom) (λ _. Unit {0}) (body r end s w)
-  unfolding body eatEol eatTrivia
+  pub body-anywhere : (end : ℕ) (s : State) (w : World) → s .live + 30 ≤ liveRoom → N + 112 ≤ liveRoom → Ends (λ s1 _. s1 .live ≤ liveRoom) (λ _. Unit {0}) (exprs r end s w)
+  unfolding exprs eatEol eatTrivia
   body-anywhere end s w g t = weaken (rest-bounded end .ends (record { at = pastTrivia (r .sheet .tokens) (s .at); prev = s .prev; reads = s .reads; nodes = s .nodes; errors = s .errors; wanted = s .wanted; live = s .live }) w (record { calm = calm-past (r .sheet .tokens) (s .at) }) g t) (λ s1 _ z. by s1 g (z .1)) (λ _ _. tt)
     where
       by : {s : State} (s1 : State) → s .live + 30 ≤ liveRoom → Kept N s s1 30 0 46 false → s1 .live ≤ liveRoom

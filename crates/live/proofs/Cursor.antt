@@ -20,7 +20,7 @@ use Rattle.cursor.specs.Layout.{nodeWords, errorWords, nodeLimit, errorLimit, e
 use Rattle.cursor.specs.Sheet.{Sheet, count, kindAt}
 use Rattle.cursor.specs.Rule.{World, Out, Rule, _>>=_, give, ifSo, iterate}
 use Rattle.cursor.specs.Tokens.{pastFrom, pastTrivia, eatTrivia, bump, eolTurn, eatEol}
-use Rattle.cursor.specs.Checks.{liveRoom, want, check, eat, expect, eatRange, unexpected, pickFrom}
+use Rattle.cursor.specs.Checks.{liveRoom, want, check, eat, expect, eatRange, unexpected, Case, _⇒_, choose}
 use Rattle.cursor.specs.Records.{append, add, reflag, listLength, log}
 use Rattle.cursor.proofs.TokenPaths.{kind-out, past-off}
 use Rattle.types.specs.Items.{isEnded}
@@ -74,6 +74,13 @@ ranges {e} {N} {ψ = ψ} {a2 = a2} {m2 = m2} {b2 = b2} {f2 = f2} {j2 = j2} {a3 =
     not : (c : Ranged) → isEnded c ≡ false → Bounded e N ψ a3 m3 b3 f3 j3 (k c)
     not (ranged.At c) p = absurd (true≢false p)
     not ranged.Nowhere p = n
+
+-- what the ways of a chain of checks add: the one that is taken, or one kind and what the ways behind it add, down to the other rule
+infixr 30 _&_
+pub data Ways (e : Sheet) (N : ℕ) {A : Type 0} (φ : A → Bool) : ℕ → ℕ → ℕ → ℕ → ℕ → List (Case A) → Rule A → Type 0 where
+  otherwise : {a m b f j : ℕ} {other : Rule A} → Bounded e N φ a m b f j other → Ways e N φ a m b f j [] other
+  _&_ : {a m b f j a1 m1 b1 f1 j1 k : ℕ} {r other : Rule A} {cases : List (Case A)} → Bounded e N φ a m b f j r → Ways e N φ a1 m1 b1 f1 j1 cases other
+      → Ways e N φ (1 + max a a1) (max m m1) (max (max a a1) (max b b1)) (max (max a a1) (max f f1)) (max (max a a1) (max j j1)) ((k ⇒ r) ∷ cases) other
 
 -- rules that leave the place and do not lengthen the live list
 pub record Still {A : Type 0} (r : Rule A) : Type 0 where
@@ -137,10 +144,11 @@ module _ {e : Sheet} {N : ℕ} where
   unfolding unexpected
   unexpected-bounded = record { ends = λ s w h g t. ill (h, same refl (no-more _ _)) }
 
-  pub pick-bounded : (ks : List ℕ) (i : ℕ) → Adds e N (length ks) (length ks) (length ks) (length ks) (pickFrom e ks i)
-  unfolding pickFrom
-  pick-bounded [] i = gives
-  pick-bounded (k ∷ ks) i = eased (binds (check-bounded k) (λ here. ifs here gives (pick-bounded ks (i + 1)))) (omega arith) (omega arith) (omega arith) (omega arith) (omega arith)
+  -- a chain of checks
+  pub chooses : {A : Type 0} {φ : A → Bool} {a m b f j : ℕ} {cases : List (Case A)} {other : Rule A} → Ways e N φ a m b f j cases other → Bounded e N φ a m b f j (choose e cases other)
+  unfolding choose
+  chooses (otherwise x) = x
+  chooses (_&_ {k = k} x y) = eased (binds (check-bounded k) (λ here. ifs here x (chooses y))) (omega arith) (omega arith) (omega arith) (omega arith) (omega arith)
 
   no : Bounded e N yes 0 0 0 0 0 (give false)
   no = record { ends = λ s w h g t. well (h, same refl (no-more _ _)) }

@@ -2,25 +2,26 @@
 use mathlib.Core.Path.{refl}
 use mathlib.Core.Bool.{Bool, true, false}
 use Prim.Native.Nat.{ℕ}
-use lib.Dec.{ltb, eqb}
+use lib.Dec.{eqb}
 use Rattle.kinds.specs.Number as kind
 use Rattle.cursor.specs.declared.Kids.{Kids}
 use Rattle.cursor.specs.declared.Ranged.{Ranged}
 use Rattle.cursor.specs.Node as node
+use Rattle.cursor.specs.Rule.{Rule}
 use Rattle.parts.specs.declared.values.Expr.{Expr}
 use Rattle.parts.specs.Values.{linkOf, rowOf, rowWith}
-use Rattle.parts.specs.Steps.{itemsEnd}
+use Rattle.parts.specs.Steps.{Arguments, Properties, itemsEnd}
 use Rattle.rules.specs.Inner.{Inner}
-use Rattle.rules.specs.Blocks.{block, andBlock}
-use Rattle.rules.specs.Functions.{function, fnStmt}
+use Rattle.rules.specs.Blocks.{block, exprAndBlock}
+use Rattle.rules.specs.Functions.{function, namedFunction}
 use Rattle.rules.specs.Tables.{key, property, item, itemsOf, table, braceBlock, tableOrBlock, brace}
-use Rattle.rules.specs.Primary.{memberChain, member, access, call, postfixTurn}
+use Rattle.rules.specs.Primary.{memberExpr, bracketMember, dotMember, doubleColonMember, access, call, postfixTurn}
 use Rattle.live.proofs.Live.{Adds, Takes, Turns, adds, takes, fits, forget, passed, gives, ifs}
 use Rattle.live.proofs.Together.{binds, onto, after, attempts}
-use Rattle.live.proofs.Cursor.{asks, bump-bounded, eat-bounded, expect-bounded, eat-range-bounded, pick-bounded, eat-eol-bounded, add-bounded}
+use Rattle.live.proofs.Cursor.{asks, bump-bounded, eat-bounded, expect-bounded, eat-range-bounded, otherwise, _&_, chooses, eat-eol-bounded, add-bounded}
 use Rattle.live.proofs.Items.{as-item, start-bounded, close-bounded, pair-bounded, ident-bounded}
 use Rattle.live.proofs.Types.{returns-bounded}
-use Rattle.live.proofs.Parts.{list-record-bounded, block-record-bounded, fn-record-bounded, function-record-bounded, call-record-bounded, member-record-bounded, any-params-bounded, braced-bounded, no-member-bounded, meta-end-bounded, lit-key-bounded, paren-key-bounded}
+use Rattle.live.proofs.Parts.{list-record-bounded, block-record-bounded, fn-record-bounded, function-record-bounded, call-record-bounded, member-record-bounded, any-params-bounded, braced-bounded, no-member-bounded, lit-key-bounded, paren-key-bounded}
 use Rattle.live.proofs.Recovery.{items-until-bounded}
 use Rattle.live.proofs.Handed.{Handed, expr-bounded}
 
@@ -28,19 +29,19 @@ module _ {r : Inner} {N : ℕ} (x : Handed r N) where
   -- blocks and functions
   pub block-bounded : (wrap : ℕ) → Takes (r .sheet) N 1 36 36 112 (block r wrap)
   unfolding block
-  block-bounded wrap = takes (after (expect-bounded kind.OpenBrace) (λ _. binds start-bounded (λ from. binds (x .body kind.CloseBrace) (λ row. block-record-bounded from wrap from row)))) refl refl refl refl
+  block-bounded wrap = takes (after (expect-bounded kind.OpenBrace) (λ _. binds start-bounded (λ from. binds (x .exprs kind.CloseBrace) (λ row. block-record-bounded from wrap from row)))) refl refl refl refl
 
-  pub and-block-bounded : (kids : Kids) → Takes (r .sheet) N 19 36 42 112 (andBlock r kids)
-  unfolding andBlock
+  pub and-block-bounded : (kids : Kids) → Takes (r .sheet) N 19 36 42 112 (exprAndBlock r kids)
+  unfolding exprAndBlock
   and-block-bounded kids = takes (onto (expr-bounded x false) (λ link. after (block-bounded 0) (λ body. binds (add-bounded kids link) (λ one. add-bounded one body)))) refl refl refl refl
 
   pub function-bounded : (from : ℕ) (closure : Bool) → Takes (r .sheet) N 1 36 42 112 (function r from closure)
   unfolding function
   function-bounded from closure =
-      takes (onto (any-params-bounded (x .atom) closure) (λ i. binds (returns-bounded (x .atom)) (λ link. after (block-bounded 0) (λ body. function-record-bounded from closure i link body)))) refl refl refl refl
+      takes (onto (any-params-bounded (x .typeAtom) closure) (λ i. binds (returns-bounded (x .typeAtom)) (λ link. after (block-bounded 0) (λ body. function-record-bounded from closure i link body)))) refl refl refl refl
 
-  pub fn-stmt-bounded : (from : ℕ) (glo : Ranged) → Takes (r .sheet) N 1 36 42 112 (fnStmt r from glo)
-  unfolding fnStmt
+  pub fn-stmt-bounded : (from : ℕ) (glo : Ranged) → Takes (r .sheet) N 1 36 42 112 (namedFunction r from glo)
+  unfolding namedFunction
   fn-stmt-bounded from glo = takes (onto (expect-bounded kind.Fn) (λ _. onto ident-bounded (λ name. after (function-bounded from false) (λ link. fn-record-bounded from glo name link)))) refl refl refl refl
 
   -- tables
@@ -54,7 +55,7 @@ module _ {r : Inner} {N : ℕ} (x : Handed r N) where
 
   item-bounded : (k : ℕ) → Takes (r .sheet) N 19 32 42 112 (item r k)
   unfolding item
-  item-bounded k = takes (ifs (eqb k 2) property-bounded (expr-bounded x true)) refl refl refl refl
+  item-bounded k = takes (ifs (eqb k Properties) property-bounded (expr-bounded x true)) refl refl refl refl
 
   pub items-of-bounded : (k : ℕ) (kids : Kids) → Adds (r .sheet) N 21 34 42 112 (itemsOf r k kids)
   unfolding itemsOf
@@ -65,11 +66,11 @@ module _ {r : Inner} {N : ℕ} (x : Handed r N) where
   table-bounded from inside first =
       takes (after (expr-bounded x true) (λ value. binds (pair-bounded node.TableProperty inside first value) (λ link. binds eat-eol-bounded (λ _. asks (eat-bounded kind.CloseBrace)
       (close-bounded node.Table from 0 0 1 link)
-      (after (expect-bounded kind.Comma) (λ _. binds (items-of-bounded 2 (rowWith link)) (λ i. list-record-bounded node.Table from i))))))) refl refl refl refl
+      (after (expect-bounded kind.Comma) (λ _. binds (items-of-bounded Properties (rowWith link)) (λ i. list-record-bounded node.Table from i))))))) refl refl refl refl
 
   brace-block-bounded : (from inside : ℕ) → Adds (r .sheet) N 30 36 36 112 (braceBlock r from inside)
   unfolding braceBlock
-  brace-block-bounded from inside = adds (binds (x .body kind.CloseBrace) (λ row. block-record-bounded inside node.ExprBlock from row)) refl refl refl refl
+  brace-block-bounded from inside = adds (binds (x .exprs kind.CloseBrace) (λ row. block-record-bounded inside node.ExprBlock from row)) refl refl refl refl
 
   table-or-block-bounded : (from : ℕ) → Adds (r .sheet) N 30 38 42 112 (tableOrBlock r from)
   unfolding tableOrBlock
@@ -80,24 +81,33 @@ module _ {r : Inner} {N : ℕ} (x : Handed r N) where
   brace-bounded from = takes (after bump-bounded (λ _. binds eat-eol-bounded (λ _. asks (eat-bounded kind.CloseBrace) (close-bounded node.Table from 0 0 0 0) (table-or-block-bounded from)))) refl refl refl refl
 
   -- calls and members
-  member-bounded : (which : ℕ) → Takes (r .sheet) N 0 20 42 112 (member r which)
-  unfolding member
-  member-bounded which =
-      takes (after bump-bounded (λ _. asks (eat-bounded kind.Pound)
-      (meta-end-bounded which)
-      (ifs (ltb 0 which) (passed ident-bounded) (passed (onto (expr-bounded x true) (λ link. after (expect-bounded kind.CloseBracket) (λ _. gives))))))) refl refl refl refl
+  member-bounded : (from : ℕ) (safe : Ranged) (a : Expr) (named meta : ℕ) {property : Rule ℕ} {closing : Rule Unit} → Takes (r .sheet) N 19 32 42 112 property → Adds (r .sheet) N 1 0 0 0 closing → Turns (r .sheet) N 0 33 33 42 112 (memberExpr r from safe a named meta property closing)
+  member-bounded from safe a named meta p c =
+      fits (after bump-bounded (λ _. asks (eat-bounded kind.Pound)
+      (binds c (λ _. member-record-bounded from safe meta a 0))
+      (after p (λ link. binds c (λ _. member-record-bounded from safe named a link))))) refl refl refl refl refl
 
-  access-bounded : (from : ℕ) (a : Expr) → Turns (r .sheet) N 4 20 20 42 112 (access r from a)
+  bracket-bounded : (from : ℕ) (safe : Ranged) (a : Expr) → Turns (r .sheet) N 0 33 33 42 112 (bracketMember r from safe a)
+  unfolding bracketMember
+  bracket-bounded from safe a = member-bounded from safe a _ _ (expr-bounded x true) (passed (expect-bounded kind.CloseBracket))
+
+  dot-bounded : (from : ℕ) (safe : Ranged) (a : Expr) → Turns (r .sheet) N 0 33 33 42 112 (dotMember r from safe a)
+  unfolding dotMember
+  dot-bounded from safe a = member-bounded from safe a _ _ (takes ident-bounded refl refl refl refl) (adds gives refl refl refl refl)
+
+  double-colon-bounded : (from : ℕ) (safe : Ranged) (a : Expr) → Turns (r .sheet) N 0 33 33 42 112 (doubleColonMember r from safe a)
+  unfolding doubleColonMember
+  double-colon-bounded from safe a = member-bounded from safe a _ _ (takes ident-bounded refl refl refl refl) (adds gives refl refl refl refl)
+
+  access-bounded : (from : ℕ) (a : Expr) → Turns (r .sheet) N 4 33 33 42 112 (access r from a)
   unfolding access
   access-bounded from a =
-      fits (binds (forget (eat-range-bounded kind.Question)) (λ safe. binds (pick-bounded memberChain 0) (λ which. ifs (ltb 2 which)
-      (no-member-bounded safe a)
-      (after (member-bounded which) (λ link. member-record-bounded from safe which a link))))) refl refl refl refl refl
+      fits (binds (forget (eat-range-bounded kind.Question)) (λ safe. chooses (bracket-bounded from safe a & dot-bounded from safe a & double-colon-bounded from safe a & otherwise (no-member-bounded safe a)))) refl refl refl refl refl
 
   call-bounded : (from : ℕ) (lambda : Bool) (a : Expr) → Adds (r .sheet) N 23 36 42 112 (call r from lambda a)
   unfolding call
   call-bounded from lambda a =
-      adds (binds (items-of-bounded 0 (rowOf (linkOf a))) (λ i. binds (braced-bounded lambda) (λ trailing. ifs trailing
+      adds (binds (items-of-bounded Arguments (rowOf (linkOf a))) (λ i. binds (braced-bounded lambda) (λ trailing. ifs trailing
       (after (block-bounded node.Closure) (λ closure. call-record-bounded from (i .kids) closure))
       (call-record-bounded from (i .kids) 0)))) refl refl refl refl
 

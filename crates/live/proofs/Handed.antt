@@ -9,9 +9,9 @@ use Rattle.live.proofs.Together.{after}
 use Rattle.live.proofs.Types.{Atom, Pattern}
 
 pub record Handed (r : Inner) (N : ℕ) : Type 0 where
-  pub body : (end : ℕ) → Adds (r .sheet) N 30 36 30 112 (r .body end)
+  pub exprs : (end : ℕ) → Adds (r .sheet) N 30 36 30 112 (r .exprs end)
   pub prec : (min : ℕ) (lambda : Bool) → Takes (r .sheet) N 19 32 42 112 (r .prec min lambda)
-  pub atom : Atom (r .sheet) N (r .atom)
+  pub typeAtom : Atom (r .sheet) N (r .typeAtom)
   pub pattern : Pattern (r .sheet) N (r .pattern)
 
 module _ {r : Inner} {N : ℕ} (x : Handed r N) where

@@ -2,7 +2,6 @@
 use mathlib.Core.Path.{refl}
 use mathlib.Core.Bool.{Bool}
 use Prim.Native.Nat.{ℕ, zero, suc}
-use lib.Dec.{ltb, eqb}
 use Rattle.kinds.specs.Number as kind
 use Rattle.cursor.specs.declared.Kids.{Kids}
 use Rattle.cursor.specs.declared.Fault.{Fault}
@@ -21,8 +20,8 @@ use Rattle.parts.specs.declared.steps.Checked.{Checked}
 use Rattle.parts.specs.declared.steps.Checked.the-variants as checked
 use Rattle.parts.specs.Values.{linkOf}
 use Rattle.parts.specs.When.{failWith}
-use Rattle.parts.specs.Records.{couple, rowRecord, listRecord, wrapped, blockRecord, fnRecord, functionKind, functionRecord, handlerRecord, handlersFlagged, ifRecord, roundRecord, callRecord, memberRecord}
-use Rattle.parts.specs.Steps.{checkedType, anyParams, braced, noMember, metaEnd, litKey, parenKeyAt, parenKey, leaf, nameTurn, names, loopNames, patternTurn, casePatterns, typeChecked, typeCheckAt, typeCheck}
+use Rattle.parts.specs.Records.{couple, rowRecord, listRecord, wrapped, blockRecord, fnRecord, functionKind, functionRecord, handlerRecord, handlersFlagged, ifRecord, callRecord, memberRecord}
+use Rattle.parts.specs.Steps.{checkedType, anyParams, braced, noMember, litKey, parenKeyAt, parenKey, nameTurn, names, patternTurn, casePatterns, typeChecked, typeCheckAt, typeCheck}
 use Rattle.live.proofs.Live.{ill, same, Bounded, Adds, Takes, Turns, adds, takes, fits, gives, stops, ifs}
 use Rattle.live.proofs.Together.{binds, onto, after, loops}
 use Rattle.live.proofs.Cursor.{no-more, asks, bump-bounded, check-bounded, eat-bounded, expect-bounded, unexpected-bounded, append-bounded, add-bounded, reflag-bounded}
@@ -75,17 +74,13 @@ module _ {e : Sheet} {N : ℕ} where
   unfolding ifRecord
   if-record-bounded from kids link = adds (binds (add-some-bounded kids link) (λ every. close-bounded node.If from 0 0 _ (every .first))) refl refl refl refl
 
-  pub round-record-bounded : (from which names : ℕ) (kids : Kids) → Adds e N 0 0 0 0 (roundRecord from which names kids)
-  unfolding roundRecord
-  round-record-bounded from which names kids = adds (ifs (eqb which 10) (close-bounded node.While from 0 0 0 (kids .first)) (close-bounded node.For from 0 0 _ (kids .first))) refl refl refl refl
-
   pub call-record-bounded : (from : ℕ) (kids : Kids) (lambda : ℕ) → Adds e N 0 0 0 0 (callRecord from kids lambda)
   unfolding callRecord
   call-record-bounded from kids lambda = adds (binds (add-some-bounded kids lambda) (λ every. binds (close-bounded node.Call from 0 0 _ (every .first)) (λ link. gives))) refl refl refl refl
 
-  pub member-record-bounded : (from : ℕ) (safe : Ranged) (which : ℕ) (x : Expr) (link : ℕ) → Adds e N 0 0 0 0 (memberRecord from safe which x link)
+  pub member-record-bounded : (from : ℕ) (safe : Ranged) (member : ℕ) (x : Expr) (link : ℕ) → Adds e N 0 0 0 0 (memberRecord from safe member x link)
   unfolding memberRecord
-  member-record-bounded from safe which x link = adds (binds (add-bounded noKids (linkOf x)) (λ one. binds (add-some-bounded one link) (λ every. binds (close-bounded node.Member from _ _ _ (every .first)) (λ m. gives)))) refl refl refl refl
+  member-record-bounded from safe member x link = adds (binds (add-bounded noKids (linkOf x)) (λ one. binds (add-some-bounded one link) (λ every. binds (close-bounded node.Member from _ _ _ (every .first)) (λ m. gives)))) refl refl refl refl
 
   -- steps
   pub any-params-bounded : {atom : Rule ℕ} → Atom e N atom → (closure : Bool) → Takes e N 1 34 42 112 (anyParams e atom closure)
@@ -100,10 +95,6 @@ module _ {e : Sheet} {N : ℕ} where
   unfolding noMember
   no-member-bounded safe x = fits (ifs (isEnded safe) unexpected-bounded stops) refl refl refl refl refl
 
-  pub meta-end-bounded : (which : ℕ) → Adds e N 1 0 0 0 (metaEnd e which)
-  unfolding metaEnd
-  meta-end-bounded which = adds (ifs (ltb 0 which) gives (after (expect-bounded kind.CloseBracket) (λ _. gives))) refl refl refl refl
-
   pub lit-key-bounded : Takes e N 0 0 1 1 (litKey e)
   unfolding litKey
   lit-key-bounded = takes (onto lit-bounded (λ link. after (expect-bounded kind.Colon) (λ _. gives))) refl refl refl refl
@@ -116,21 +107,13 @@ module _ {e : Sheet} {N : ℕ} where
   unfolding parenKey
   paren-key-bounded from link = takes (onto (expect-bounded kind.CloseParen) (λ _. paren-key-at-bounded from link)) refl refl refl refl
 
-  pub leaf-bounded : (from which : ℕ) → Takes e N 0 0 0 0 (leaf e from which)
-  unfolding leaf
-  leaf-bounded from which = takes (after bump-bounded (λ _. ifs (eqb which 12) (close-bounded node.Break from 0 0 0 0) (close-bounded node.Continue from 0 0 0 0))) refl refl refl refl
-
   name-turn-bounded : (kids : Kids) → Turns e N 1 0 1 1 1 (nameTurn e kids)
   unfolding nameTurn
   name-turn-bounded kids = fits (onto ident-bounded (λ link. binds (add-bounded kids link) (λ longer. asks (eat-bounded kind.Comma) gives stops))) refl refl refl refl refl
 
-  names-bounded : Adds e N 1 1 1 1 (names e)
+  pub names-bounded : Adds e N 1 1 1 1 (names e)
   unfolding names
   names-bounded = adds (loops name-turn-bounded e noKids) refl refl refl refl
-
-  pub loop-names-bounded : (which : ℕ) → Adds e N 2 2 2 2 (loopNames e which)
-  unfolding loopNames
-  loop-names-bounded which = adds (ifs (eqb which 10) gives (binds names-bounded (λ kids. after (expect-bounded kind.In) (λ _. gives)))) refl refl refl refl
 
   module _ {pattern : Rule ℕ} (x : Pattern e N pattern) where
     pattern-turn-bounded : (kids : Kids) → Turns e N 4 0 25 40 112 (patternTurn e pattern kids)

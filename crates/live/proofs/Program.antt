@@ -21,11 +21,11 @@ use Rattle.live.proofs.Body.{body-bounded, body-anywhere}
 -- by the levels left
 pub levels-handed : (e : Sheet) (d : ℕ) → Handed (levels e d) (level * d)
 unfolding knot
-levels-handed e zero = record { body = λ end. refuses (λ q. omega arith); prec = λ min lambda. refuses (λ q. omega arith); atom = atoms-bounded e zero; pattern = patterns-bounded e zero }
+levels-handed e zero = record { exprs = λ end. refuses (λ q. omega arith); prec = λ min lambda. refuses (λ q. omega arith); typeAtom = atoms-bounded e zero; pattern = patterns-bounded e zero }
 levels-handed e (suc d) = record {
-  body = λ end. lifted level (omega arith) (body-bounded (levels-handed e d) end) refl refl refl refl;
+  exprs = λ end. lifted level (omega arith) (body-bounded (levels-handed e d) end) refl refl refl refl;
   prec = λ min lambda. lifted level (omega arith) (precedence-bounded (levels-handed e d) min lambda) refl refl refl refl;
-  atom = atoms-bounded e (suc d);
+  typeAtom = atoms-bounded e (suc d);
   pattern = patterns-bounded e (suc d);
 }
 

@@ -1,7 +1,6 @@
 -- What the lists, imports, effects and the skipping of parts add to the live list.
 use mathlib.Core.Path.{refl}
 use Prim.Native.Nat.{ℕ}
-use lib.Dec.{ltb, eqb}
 use Rattle.kinds.specs.Number as kind
 use Rattle.cursor.specs.declared.Kids.{Kids}
 use Rattle.cursor.specs.declared.Ranged.{Ranged}
@@ -15,11 +14,11 @@ use Rattle.parts.specs.declared.imports.Imported.{Imported}
 use Rattle.parts.specs.Answers.{onPath}
 use Rattle.parts.specs.Values.{uncounted}
 use Rattle.parts.specs.Until.{untilTurn, itemsUntil}
-use Rattle.parts.specs.Imports.{endChain, tailChain, importItem, importItems, importEnd, importTail, pathTurn, importStmt}
+use Rattle.parts.specs.Imports.{importItem, importItems, importSimple, importAlias, importNested, importGlob, importEnd, importTail, pathTurn, importStmt}
 use Rattle.parts.specs.Effects.{effectRecord, effectStmt}
 use Rattle.live.proofs.Live.{Adds, Takes, Turns, adds, takes, fits, forget, gives, stops, ifs}
 use Rattle.live.proofs.Together.{binds, onto, after, loops}
-use Rattle.live.proofs.Cursor.{asks, bump-bounded, check-bounded, eat-bounded, expect-bounded, unexpected-bounded, pick-bounded, eat-eol-bounded, add-bounded}
+use Rattle.live.proofs.Cursor.{asks, bump-bounded, check-bounded, eat-bounded, expect-bounded, unexpected-bounded, otherwise, _&_, chooses, eat-eol-bounded, add-bounded}
 use Rattle.live.proofs.Items.{Item, as-item, start-bounded, close-bounded, add-some-bounded, one-item-bounded, ident-bounded}
 use Rattle.live.proofs.Types.{Atom, params-bounded, returns-bounded}
 
@@ -46,13 +45,29 @@ module _ {e : Sheet} {N : ℕ} where
   unfolding importItems
   import-items-bounded kids = adds (items-until-bounded (as-item import-item-bounded refl refl refl refl) kind.CloseBrace kids) refl refl refl refl
 
+  import-simple-bounded : (kids : Kids) → Turns e N 0 0 0 0 0 (importSimple e kids)
+  unfolding importSimple
+  import-simple-bounded kids = stops
+
+  import-alias-bounded : (kids : Kids) → Turns e N 0 1 1 1 1 (importAlias e kids)
+  unfolding importAlias
+  import-alias-bounded kids = fits (after bump-bounded (λ _. after ident-bounded (λ alias. binds (add-bounded kids alias) (λ longer. gives)))) refl refl refl refl refl
+
+  import-nested-bounded : (kids : Kids) → Turns e N 0 34 34 42 112 (importNested e kids)
+  unfolding importNested
+  import-nested-bounded kids = fits (after bump-bounded (λ _. binds (import-items-bounded (uncounted kids)) (λ i. gives))) refl refl refl refl refl
+
+  import-glob-bounded : (kids : Kids) → Turns e N 0 0 0 0 0 (importGlob e kids)
+  unfolding importGlob
+  import-glob-bounded kids = fits (after bump-bounded (λ _. gives)) refl refl refl refl refl
+
   import-end-bounded : (kids : Kids) → Turns e N 2 1 2 2 2 (importEnd e kids)
   unfolding importEnd
-  import-end-bounded kids = fits (binds (pick-bounded endChain 0) (λ which. ifs (eqb which 0) stops (ifs (ltb 1 which) unexpected-bounded (after bump-bounded (λ _. after ident-bounded (λ alias. binds (add-bounded kids alias) (λ longer. gives))))))) refl refl refl refl refl
+  import-end-bounded kids = fits (chooses (import-simple-bounded kids & import-alias-bounded kids & otherwise unexpected-bounded)) refl refl refl refl refl
 
   import-tail-bounded : (kids : Kids) → Turns e N 2 34 34 42 112 (importTail e kids)
   unfolding importTail
-  import-tail-bounded kids = fits (binds (pick-bounded tailChain 0) (λ which. ifs (ltb 1 which) unexpected-bounded (after bump-bounded (λ _. ifs (eqb which 1) gives (binds (import-items-bounded (uncounted kids)) (λ i. gives)))))) refl refl refl refl refl
+  import-tail-bounded kids = fits (chooses (import-nested-bounded kids & import-glob-bounded kids & otherwise unexpected-bounded)) refl refl refl refl refl
 
   path-turn-bounded : (i : Imported) → Turns e N 1 34 34 42 112 (pathTurn e i)
   unfolding pathTurn

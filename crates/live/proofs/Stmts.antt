@@ -2,15 +2,13 @@
 use mathlib.Core.Path.{refl}
 use mathlib.Core.Bool.{Bool, true, false}
 use Prim.Native.Nat.{ℕ, _+_, max}
-use lib.ListN.{getD}
 use lib.Dec.{ltb, eqb}
 use Rattle.kinds.specs.Number as kind
 use Rattle.cursor.specs.declared.Kids.{Kids}
 use Rattle.cursor.specs.declared.Span.{Span}
-use Rattle.cursor.specs.declared.Ranged.{Ranged}
 use Rattle.cursor.specs.declared.Ranged.the-variants as ranged
 use Rattle.cursor.specs.Node as node
-use Rattle.cursor.specs.Sheet.{Sheet, rangeAt}
+use Rattle.cursor.specs.Sheet.{Sheet}
 use Rattle.cursor.specs.Rule.{Rule, _>>=_, give, Next, more}
 use Rattle.cursor.specs.Records.{add}
 use Rattle.parts.specs.declared.values.Called.{Called}
@@ -22,10 +20,10 @@ use Rattle.parts.specs.Values.{toAssignLeft, rowWith, uncounted}
 use Rattle.parts.specs.When.{failWith}
 use Rattle.parts.specs.Steps.{alone, operatorOf}
 use Rattle.rules.specs.Inner.{Inner}
-use Rattle.rules.specs.Statements.{stmtChain, gloChain, signChain, right, setTo, set, typed, leftOf, leftTurn, lefts, rightTurn, rights, multiTo, multi, assign, gloBy, glo, plain, functionStmt, stmt}
+use Rattle.rules.specs.Statements.{right, setTo, set, typedAssign, leftOf, leftTurn, lefts, rightTurn, rights, multiTo, multi, assign, gloAssign, glo, plain, functionStmt, stmt}
 use Rattle.live.proofs.Live.{Bounded, all, Adds, Takes, Turns, adds, takes, fits, passed, gives, stops, ifs}
 use Rattle.live.proofs.Together.{binds, onto, after, attempts, loops}
-use Rattle.live.proofs.Cursor.{ranges, bump-bounded, check-bounded, unexpected-bounded, expect-bounded, eat-range-bounded, pick-bounded, add-bounded}
+use Rattle.live.proofs.Cursor.{ranges, bump-bounded, check-bounded, unexpected-bounded, expect-bounded, eat-range-bounded, otherwise, _&_, chooses, add-bounded}
 use Rattle.live.proofs.Items.{start-bounded, close-bounded, pair-bounded}
 use Rattle.live.proofs.Types.{typed-ident-bounded, type-bounded, named-bounded}
 use Rattle.live.proofs.Parts.{fail-with-bounded, couple-bounded, row-record-bounded}
@@ -59,9 +57,9 @@ module _ {r : Inner} {N : ℕ} (x : Handed r N) where
   unfolding set
   set-bounded from sign a = takes (set-to-bounded from sign (toAssignLeft a)) refl refl refl refl
 
-  typed-bounded : (from : ℕ) (a : Expr) → Takes (r .sheet) N 0 32 42 112 (typed r from a)
-  unfolding typed
-  typed-bounded from (exprs.Name name) = takes (onto bump-bounded (λ _. onto (type-bounded (x .atom)) (λ t. binds (pair-bounded node.TypedIdent from name t) (λ link. onto (expect-bounded kind.Assign) (λ _. right-bounded from node.Assign 0 link))))) refl refl refl refl
+  typed-bounded : (from : ℕ) (a : Expr) → Takes (r .sheet) N 0 32 42 112 (typedAssign r from a)
+  unfolding typedAssign
+  typed-bounded from (exprs.Name name) = takes (onto bump-bounded (λ _. onto (type-bounded (x .typeAtom)) (λ t. binds (pair-bounded node.TypedIdent from name t) (λ link. onto (expect-bounded kind.Assign) (λ _. right-bounded from node.Assign 0 link))))) refl refl refl refl
   typed-bounded from (exprs.NameMember link) = takes (unexpected-bounded) refl refl refl refl
   typed-bounded from (exprs.Call link called) = takes (unexpected-bounded) refl refl refl refl
   typed-bounded from (exprs.Other link) = takes (unexpected-bounded) refl refl refl refl
@@ -108,23 +106,21 @@ module _ {r : Inner} {N : ℕ} (x : Handed r N) where
   assign-bounded : (from : ℕ) → Takes (r .sheet) N 19 42 42 112 (assign r from)
   unfolding assign
   assign-bounded from =
-      takes (after (x .prec 1 true) (λ a. binds (pick-bounded signChain 0) (λ which. ifs (eqb which 0) (passed (multi-bounded from a)) (ifs (eqb which 1) (passed (typed-bounded from a)) (ifs (ltb 7 which) gives (passed (set-bounded from (getD signChain which 0) a))))))) refl refl refl refl
+      takes (after (x .prec 1 true) (λ a. chooses (passed (multi-bounded from a) & passed (typed-bounded from a)
+      & passed (set-bounded from _ a) & passed (set-bounded from _ a) & passed (set-bounded from _ a) & passed (set-bounded from _ a) & passed (set-bounded from _ a) & passed (set-bounded from _ a)
+      & otherwise gives))) refl refl refl refl
 
-  glo-by-bounded : (from : ℕ) (here : Ranged) (which : ℕ) → Takes (r .sheet) N 1 36 42 112 (gloBy r from here which)
-  unfolding gloBy
-  glo-by-bounded from here which =
-      takes (ifs (eqb which 0) (fn-stmt-bounded x from here) (ifs (eqb which 1) (effect-stmt-bounded (x .atom) from here)
-      (onto (typed-ident-bounded (named-bounded (x .atom) false)) (λ name. onto (expect-bounded kind.Assign) (λ _. right-bounded from node.GloAssign 0 name))))) refl refl refl refl
+  glo-assign-bounded : (from : ℕ) → Takes (r .sheet) N 1 32 42 112 (gloAssign r from)
+  unfolding gloAssign
+  glo-assign-bounded from = takes (onto (typed-ident-bounded (named-bounded (x .typeAtom) false)) (λ left. onto (expect-bounded kind.Assign) (λ _. right-bounded from node.GloAssign 0 left))) refl refl refl refl
 
   glo-bounded : (from : ℕ) → Takes (r .sheet) N 0 36 42 112 (glo r from)
   unfolding glo
-  glo-bounded from = takes (record { ends = λ s w h g t. onto bump-bounded (λ _. binds (pick-bounded gloChain 0) (λ which. glo-by-bounded from (rangeAt (r .sheet .tokens) (s .at)) which)) .ends s w h g t }) refl refl refl refl
+  glo-bounded from = takes (record { ends = λ s w h g t. onto bump-bounded (λ _. chooses (fn-stmt-bounded x from _ & effect-stmt-bounded (x .typeAtom) from _ & otherwise (glo-assign-bounded from))) .ends s w h g t }) refl refl refl refl
 
   plain-bounded : Takes (r .sheet) N 22 42 42 112 (plain r)
   unfolding plain
-  plain-bounded =
-      takes (binds start-bounded (λ from. binds (pick-bounded stmtChain 0) (λ which. ifs (eqb which 0) (import-stmt-bounded from)
-      (ifs (eqb which 1) (effect-stmt-bounded (x .atom) from ranged.Nowhere) (ifs (eqb which 2) (glo-bounded from) (assign-bounded from)))))) refl refl refl refl
+  plain-bounded = takes (binds start-bounded (λ from. chooses (import-stmt-bounded from & effect-stmt-bounded (x .typeAtom) from ranged.Nowhere & glo-bounded from & otherwise (assign-bounded from)))) refl refl refl refl
 
   function-stmt-bounded : Takes (r .sheet) N 1 36 42 112 (functionStmt r)
   unfolding functionStmt

@@ -9,7 +9,7 @@ use Rattle.cursor.specs.Sheet.{Sheet, count}
 use Rattle.cursor.specs.Rule.{World, Out, Rule, _>>=_, Next, more, stop, Turn, next, turns, iterate}
 use Rattle.cursor.specs.Tokens.{rewind}
 use Rattle.cursor.specs.Checks.{liveRoom}
-use Rattle.cursor.specs.Attempts.{attempt}
+use Rattle.cursor.specs.Attempts.{tryParse}
 use Rattle.live.proofs.Live.{Ends, well, weaken, then, either, Settled, Kept, taken, fresh, same, none, all, going, Bounded, Adds, Turns, loosen, anyway, later, later-room, at-most, behind, without-m, left-of, right-of}
 
 module _ {e : Sheet} {N : ℕ} where
@@ -76,8 +76,8 @@ module _ {e : Sheet} {N : ℕ} where
   -- an attempt: the other rule begins where the attempt did
   module _ {A B : Type 0} {ψ : B → Bool} {a1 m1 b1 f1 j1 a2 m2 b2 f2 j2 a3 m3 b3 f3 j3 : ℕ} {r : Rule A} {k : A → Rule B} {back : Rule B} where
     attempts-to : (L M T F J : ℕ) → a1 ≤ L → a3 ≤ L → max (m1 + a2) b2 ≤ M → max (m1 + a2) b2 ≤ T → m3 ≤ M → b3 ≤ T → max (m1 + a2) f2 ≤ F → f3 ≤ F → j1 ≤ J → max (m1 + a2) j2 ≤ J → j3 ≤ J
-        → Bounded e N all a1 m1 b1 f1 j1 r → ((x : A) → Bounded e N none a2 m2 b2 f2 j2 (k x)) → Bounded e N ψ a3 m3 b3 f3 j3 back → Bounded e N ψ L M T F J (attempt r k back)
-    unfolding attempt rewind
+        → Bounded e N all a1 m1 b1 f1 j1 r → ((x : A) → Bounded e N none a2 m2 b2 f2 j2 (k x)) → Bounded e N ψ a3 m3 b3 f3 j3 back → Bounded e N ψ L M T F J (tryParse r k back)
+    unfolding tryParse rewind
     attempts-to L M T F J l1 l3 p1 p2 p3 p4 p5 p6 p7 p8 p9 x y z = record {
       ends = λ s w h g t. either (x .ends s w h (omega arith) (omega arith))
           (λ s1 w1 v u. let l = at-most (u .1) in weaken (y v .ends s1 w1 (u .0) (omega (arith, l, p8, t)) (omega (arith, p8, t)))
@@ -94,7 +94,7 @@ module _ {e : Sheet} {N : ℕ} where
         back-to s s1 (same q l) = same q (omega arith)
 
     pub attempts : Bounded e N all a1 m1 b1 f1 j1 r → ((x : A) → Bounded e N none a2 m2 b2 f2 j2 (k x)) → Bounded e N ψ a3 m3 b3 f3 j3 back
-        → Bounded e N ψ (max a1 a3) (max (max (m1 + a2) b2) m3) (max (max (m1 + a2) b2) b3) (max (max (m1 + a2) f2) f3) (max j1 (max (max (m1 + a2) j2) j3)) (attempt r k back)
+        → Bounded e N ψ (max a1 a3) (max (max (m1 + a2) b2) m3) (max (max (m1 + a2) b2) b3) (max (max (m1 + a2) f2) f3) (max j1 (max (max (m1 + a2) j2) j3)) (tryParse r k back)
     attempts = attempts-to _ _ _ _ _ (left-of _ _) (right-of _ _) (left-of _ _) (left-of _ _) (right-of _ _) (right-of _ _) (left-of _ _) (right-of _ _) (left-of _ _) (le-trans (left-of _ _) (right-of _ _)) (le-trans (right-of _ _) (right-of _ _))
 
   -- loops

@@ -11,16 +11,18 @@ use Rattle.cursor.specs.Sheet.{Sheet}
 use Rattle.cursor.specs.Rule.{Rule}
 use Rattle.cursor.specs.Records.{noKids}
 use Rattle.types.specs.declared.items.Items.{Items}
-use Rattle.types.specs.Types.{pickOne, unionTurn, union, type, returns, named, typedIdent, tableTyPair, tableTyOther, typeItem, typeLastKind, typeEnd, typeLastItem, typeLast, typeItems, typeParen, typeTable, typeFunction, typeChain, typeBy, typeAtom, atoms, params, closureParams}
-use Rattle.types.specs.Patterns.{patternEnd, patternLast, tablePatternPair, patternItem, patternItems, patternRow, patternChain, patternBy, pattern, patterns}
+use Rattle.types.specs.ItemRules as items
+use Rattle.types.specs.ItemRules.{byRule}
+use Rattle.types.specs.Types.{unionTurn, union, type, returns, named, typedIdent, tableTyPair, tableTyOther, typeItem, typeLastKind, typeEnd, typeLastItem, typeLast, typeItems, typeParen, typeTable, typeFunction, typeAtom, atoms, params, closureParams}
+use Rattle.types.specs.Patterns.{patternEnd, patternLast, tablePatternPair, patternItem, patternItems, patternRow, pattern, patterns}
 use Rattle.live.proofs.Live.{Bounded, Adds, Takes, Turns, eased, adds, takes, fits, passed, gives, stops, refuses, ifs, lifted}
 use Rattle.live.proofs.Together.{binds, onto, after, loops}
-use Rattle.live.proofs.Cursor.{asks, bump-bounded, check-bounded, eat-bounded, expect-bounded, pick-bounded, add-bounded}
+use Rattle.live.proofs.Cursor.{asks, bump-bounded, check-bounded, eat-bounded, expect-bounded, otherwise, _&_, chooses, add-bounded}
 use Rattle.live.proofs.Items.{as-item, start-bounded, close-bounded, pair-bounded, add-some-bounded, lit-bounded, ident-bounded, items-until-with-last-bounded}
 
--- one of four
+-- what goes with an item rule
 picks : {e : Sheet} {N : ℕ} {A : Type 0} {φ : A → Bool} {a1 m1 b1 f1 j1 a2 m2 b2 f2 j2 a3 m3 b3 f3 j3 a4 m4 b4 f4 j4 : ℕ} {p q r t : Rule A} (k : ℕ) → Bounded e N φ a1 m1 b1 f1 j1 p → Bounded e N φ a2 m2 b2 f2 j2 q → Bounded e N φ a3 m3 b3 f3 j3 r → Bounded e N φ a4 m4 b4 f4 j4 t
-    → Bounded e N φ (max (max a1 a2) (max a3 a4)) (max (max m1 m2) (max m3 m4)) (max (max b1 b2) (max b3 b4)) (max (max f1 f2) (max f3 f4)) (max (max j1 j2) (max j3 j4)) (λ s w. pickOne k (p s w) (q s w) (r s w) (t s w))
+    → Bounded e N φ (max (max a1 a2) (max a3 a4)) (max (max m1 m2) (max m3 m4)) (max (max b1 b2) (max b3 b4)) (max (max f1 f2) (max f3 f4)) (max (max j1 j2) (max j3 j4)) (λ s w. byRule k (p s w) (q s w) (r s w) (t s w))
 picks zero x y z u = eased x (omega arith) (omega arith) (omega arith) (omega arith) (omega arith)
 picks (suc zero) x y z u = eased y (omega arith) (omega arith) (omega arith) (omega arith) (omega arith)
 picks (suc (suc zero)) x y z u = eased z (omega arith) (omega arith) (omega arith) (omega arith) (omega arith)
@@ -78,7 +80,7 @@ module _ {e : Sheet} {N : ℕ} where
 
     type-last-item-bounded : (k : ℕ) → Takes e N 1 26 40 112 (typeLastItem e atom k)
     unfolding typeLastItem
-    type-last-item-bounded k = takes (ifs (eqb k 2) table-ty-other-bounded (onto (expect-bounded kind.Ellipsis) (λ _. type-item-bounded k))) refl refl refl refl
+    type-last-item-bounded k = takes (ifs (eqb k items.TableTyPairs) table-ty-other-bounded (onto (expect-bounded kind.Ellipsis) (λ _. type-item-bounded k))) refl refl refl refl
 
     type-last-bounded : (k : ℕ) (i : Items) → Takes e N 1 26 40 112 (typeLast e atom k i)
     unfolding typeLast
@@ -94,27 +96,23 @@ module _ {e : Sheet} {N : ℕ} where
 
     type-table-bounded : (from : ℕ) → Takes e N 0 34 42 112 (typeTable e atom from)
     unfolding typeTable
-    type-table-bounded from = takes (after bump-bounded (λ _. binds (type-items-bounded 2 noKids) (λ i. close-bounded node.TyTable from 0 0 _ (i .kids .first)))) refl refl refl refl
+    type-table-bounded from = takes (after bump-bounded (λ _. binds (type-items-bounded items.TableTyPairs noKids) (λ i. close-bounded node.TyTable from 0 0 _ (i .kids .first)))) refl refl refl refl
 
     type-function-bounded : (from : ℕ) → Takes e N 0 35 42 112 (typeFunction e atom from)
     unfolding typeFunction
-    type-function-bounded from = takes (after bump-bounded (λ _. binds (type-items-bounded 3 noKids) (λ i. binds returns-bounded (λ r. binds (add-some-bounded (i .kids) r) (λ kids. close-bounded node.TyFunction from 0 0 _ (kids .first)))))) refl refl refl refl
-
-    type-by-bounded : (from which : ℕ) → Takes e N 1 35 42 112 (typeBy e atom from which)
-    unfolding typeBy
-    type-by-bounded from which = takes (picks which (type-paren-bounded from) ident-bounded (type-table-bounded from) (ifs (eqb which 3) (type-function-bounded from) lit-bounded)) refl refl refl refl
+    type-function-bounded from = takes (after bump-bounded (λ _. binds (type-items-bounded items.Types noKids) (λ i. binds returns-bounded (λ r. binds (add-some-bounded (i .kids) r) (λ kids. close-bounded node.TyFunction from 0 0 _ (kids .first)))))) refl refl refl refl
 
     pub type-atom-bounded : Takes e N 5 35 42 112 (typeAtom e atom)
     unfolding typeAtom
-    type-atom-bounded = takes (binds start-bounded (λ from. binds (pick-bounded (typeChain e) 0) (λ which. type-by-bounded from which))) refl refl refl refl
+    type-atom-bounded = takes (binds start-bounded (λ from. chooses (type-paren-bounded from & ident-bounded & type-table-bounded from & type-function-bounded from & otherwise lit-bounded))) refl refl refl refl
 
     pub params-bounded : (kids : Kids) → Takes e N 1 34 42 112 (params e atom kids)
     unfolding params
-    params-bounded kids = takes (after (expect-bounded kind.OpenParen) (λ _. type-items-bounded 0 kids)) refl refl refl refl
+    params-bounded kids = takes (after (expect-bounded kind.OpenParen) (λ _. type-items-bounded items.TypedIdents kids)) refl refl refl refl
 
     pub closure-params-bounded : (kids : Kids) → Takes e N 1 34 42 112 (closureParams e atom kids)
     unfolding closureParams
-    closure-params-bounded kids = takes (after (expect-bounded kind.VBar) (λ _. type-items-bounded 1 kids)) refl refl refl refl
+    closure-params-bounded kids = takes (after (expect-bounded kind.VBar) (λ _. type-items-bounded items.AtomTypedIdents kids)) refl refl refl refl
 
 pub atoms-bounded : (e : Sheet) (d : ℕ) → Atom e (level * d) (atoms e d)
 unfolding atoms
@@ -134,7 +132,8 @@ module _ {e : Sheet} {N : ℕ} where
 
     pattern-item-bounded : (k : ℕ) → Takes e N 4 24 40 112 (patternItem e inner k)
     unfolding patternItem
-    pattern-item-bounded k = takes (picks k table-pattern-pair-bounded x x x) refl refl refl refl
+    pattern-item-bounded zero = takes table-pattern-pair-bounded refl refl refl refl
+    pattern-item-bounded (suc k) = x
 
     pattern-items-bounded : (k : ℕ) (kids : Kids) → Adds e N 22 34 42 112 (patternItems e inner k kids)
     unfolding patternItems
@@ -144,13 +143,9 @@ module _ {e : Sheet} {N : ℕ} where
     unfolding patternRow
     pattern-row-bounded from k n = takes (after bump-bounded (λ _. binds (pattern-items-bounded k noKids) (λ i. close-bounded n from _ _ _ (i .kids .first)))) refl refl refl refl
 
-    pattern-by-bounded : (from which : ℕ) → Takes e N 1 34 42 112 (patternBy e inner from which)
-    unfolding patternBy
-    pattern-by-bounded from which = takes (picks which ident-bounded (pattern-row-bounded from 0 node.PatternTable) (pattern-row-bounded from 1 node.PatternList) lit-bounded) refl refl refl refl
-
     pub pattern-bounded : Takes e N 4 34 42 112 (pattern e inner)
     unfolding pattern
-    pattern-bounded = takes (binds start-bounded (λ from. binds (pick-bounded (patternChain e) 0) (λ which. pattern-by-bounded from which))) refl refl refl refl
+    pattern-bounded = takes (binds start-bounded (λ from. chooses (ident-bounded & pattern-row-bounded from items.Pairs node.PatternTable & pattern-row-bounded from items.Patterns node.PatternList & otherwise lit-bounded))) refl refl refl refl
 
 pub patterns-bounded : (e : Sheet) (d : ℕ) → Pattern e (level * d) (patterns e d)
 unfolding patterns

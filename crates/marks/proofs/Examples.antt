@@ -4,7 +4,7 @@
 use Prim.Native.Nat.{ℕ}
 use mathlib.Core.Path.{_≡_, refl}
 use mathlib.Core.List.{List, [], _∷_}
-use borrow.Author.Tests.{leb-true}
+use borrow.Author.Tests.{ltb-true}
 use Rattle.kinds.specs.Number as kind
 use Rattle.kinds.specs.Kinds.{isTrivia}
 use Rattle.kinds.specs.Operators.{binaryOf, levelOf}
@@ -66,9 +66,9 @@ unfolding before tokensOf significant isTrivia kindOf after
 named text = record {
   end = _;
   body =
-      by.body-of (by.no-eol (other refl)) (by.last-stmt (by.fn-stmt (takes refl refl) (by.an-ident (takes refl refl))
+      by.exprs-of (by.no-eol (other refl)) (by.last-stmt (by.fn-stmt (takes refl refl) (by.an-ident (takes refl refl))
       (by.function-of (by.params-of (takes refl refl) (by.until-of (by.no-eol (other refl)) (by.items-end (takes refl refl)))) (by.no-type (other refl))
-      (by.block-of (takes refl refl) (by.body-of (by.no-eol (other refl)) (by.no-stmt (takes refl refl)))))) (takes refl refl));
+      (by.block-of (takes refl refl) (by.exprs-of (by.no-eol (other refl)) (by.no-stmt (takes refl refl)))))) (takes refl refl));
   whole = refl;
 }
 
@@ -94,10 +94,10 @@ unfolding before tokensOf significant isTrivia kindOf after among levelOf binary
 group-called text = record {
   end = _;
   body =
-      by.body-of (by.no-eol (other refl)) (by.last-stmt (by.plain (alone (braced (takes refl refl) (other refl) (other refl)
-      (by.prec-of (by.no-unary (by.primary-of (by.group (takes refl refl) (by.expr-of (alone (by.name (by.an-ident (takes refl refl))) (free refl) (other refl) (leb-true _ _ refl))) (takes refl refl))
+      by.exprs-of (by.no-eol (other refl)) (by.last-stmt (by.expr-stmt (alone (braced (takes refl refl) (other refl) (other refl)
+      (by.prec-of (by.no-unary (by.primary-of (by.paren-expr (takes refl refl) (by.expr-of (alone (by.name (by.an-ident (takes refl refl))) (free refl) (other refl) (ltb-true _ _ refl))) (takes refl refl))
       (by.call (takes refl refl) (by.until-of (by.no-eol (other refl)) (by.items-end (takes refl refl))) (by.no-brace (other refl)) (by.no-post (free refl) (by.no-brace (other refl))))))
-      (by.no-op (leb-true _ _ refl))) (free refl) (takes refl refl)) (free refl) (other refl) (leb-true _ _ refl))
+      (by.no-op (ltb-true _ _ refl))) (free refl) (takes refl refl)) (free refl) (other refl) (ltb-true _ _ refl))
       (free refl)) (takes refl refl));
   whole = refl;
 }

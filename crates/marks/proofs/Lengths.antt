@@ -83,7 +83,7 @@ covers at (by.others a d b c e) = taking a ▸ covers Within d ▸ taking b ▸ 
 covers at (by.no-type h) = none
 covers at (by.returned a d) = taking a ▸ covers Within d
 covers at (by.bare d h) = covers Within d
-covers at (by.typed d a e) = covers Within d ▸ taking a ▸ covers Within e
+covers at (by.typed-ident d a e) = covers Within d ▸ taking a ▸ covers Within e
 covers at (by.params-of a d) = taking a ▸ covers Within d
 covers at (by.closure-params a d) = taking a ▸ covers Within d
 -- patterns
@@ -93,7 +93,7 @@ covers at (by.pattern-list a d) = taking a ▸ covers Within d
 covers at (by.pattern-literal d) = covers Within d
 covers at (by.pattern-pair d a e) = covers Within d ▸ taking a ▸ covers Within e
 -- statements in a row
-covers at (by.body-of a d) = covers Within a ▸ covers at d
+covers at (by.exprs-of a d) = covers Within a ▸ covers at d
 covers at (by.no-stmt a) = taking a
 covers at (by.last-stmt d a) = covers at d ▸ taking a
 covers at (by.a-line d a b e) = covers at d ▸ taking a ▸ covers Within b ▸ covers Within e
@@ -115,7 +115,7 @@ covers at (by.path-items d a b e) = covers Within d ▸ taking a ▸ taking b �
 covers at (by.path-all d a b) = covers Within d ▸ taking a ▸ taking b
 covers at (by.item-alone d h) = covers Within d
 covers at (by.item-as d a e) = covers Within d ▸ taking a ▸ covers Within e
-covers at (by.plain d h) = covers (opening at) d
+covers at (by.expr-stmt d h) = covers (opening at) d
 covers at (by.assign d f a e) = covers (opening at) d ▸ taking a ▸ covers Within e
 covers at (by.typed-assign d a e b f) = covers (opening at) d ▸ taking a ▸ covers Within e ▸ taking b ▸ covers Within f
 covers at (by.op-assign d f c a e) = covers (opening at) d ▸ taking a ▸ covers Within e
@@ -131,8 +131,8 @@ covers at (by.prec-of d e) = covers at d ▸ covers Within e
 covers at (by.no-op h) = none
 covers at (by.binary l h a d e) = taking a ▸ covers Within d ▸ covers Within e
 covers at (by.type-check {q = q} {r = r} l a c b e) = taking a ▸ place q r b ▸ covers Within e
-covers at (by.negated a d) = taking a ▸ covers Within d
-covers at (by.minus a d) = taking a ▸ covers Within d
+covers at (by.not-expr a d) = taking a ▸ covers Within d
+covers at (by.neg-expr a d) = taking a ▸ covers Within d
 covers at (by.tried a d e) = taking a ▸ covers Within d ▸ covers Within e
 covers at (by.no-unary d) = covers at d
 covers at (by.last-handler d h) = covers Within d
@@ -153,7 +153,7 @@ covers at (by.bracket-meta a b c) = taking a ▸ taking b ▸ taking c
 covers at (by.dot-meta a b) = taking a ▸ taking b
 covers at (by.double-colon-meta a b) = taking a ▸ taking b
 -- atoms
-covers at (by.group a d b) = as-key at (taking a ▸ covers Within d ▸ taking b)
+covers at (by.paren-expr a d b) = as-key at (taking a ▸ covers Within d ▸ taking b)
 covers at (by.name d) = covers Within d
 covers at (by.table a d) = taking a ▸ covers Within d
 covers at (by.block-expr a e h d) = taking a ▸ covers Within e ▸ covers Leading d
@@ -182,7 +182,7 @@ covers at (by.last-pattern d h) = covers Within d
 covers at (by.more-patterns d a e) = covers Within d ▸ taking a ▸ covers Within e
 -- the properties of a table
 covers at (by.property d e) = covers Within d ▸ covers Within e
-covers at (by.group-key a d b c) = taking a ▸ covers Within d ▸ taking b ▸ taking c
+covers at (by.paren-key a d b c) = taking a ▸ covers Within d ▸ taking b ▸ taking c
 covers at (by.literal-key d a) = covers Within d ▸ taking a
 
 -- one for each token of a sheet that is no trivia

@@ -10,7 +10,7 @@ use Rattle.grammar.specs.Follows.{Follows}
 use Rattle.complete.proofs.Cost.{costs, cost}
 use Rattle.complete.proofs.Leading.{literal-reads}
 use Rattle.marks.specs.Marks.{Stand, Leading, Within, opening, marksAt, marks, readings}
-use Rattle.marks.proofs.Sums.{Sums, total, none, place, taking, _⊕_, level, front, behind, opens, as-key, group-key, as-name, in-block}
+use Rattle.marks.proofs.Sums.{Sums, total, none, place, taking, _⊕_, level, front, behind, opens, as-key, paren-key, as-name, in-block}
 
 pub marked : {text : List ℕ} {y : Sym} {p q : Place} (at : Stand) (d : Derives text y p q) → Sums (marksAt at d) (total at (costs d))
 unfolding marksAt costs
@@ -42,7 +42,7 @@ marked at (by.others a d b c e) = level at (taking a ⊕ marked Within d ⊕ tak
 marked at (by.no-type h) = level at none
 marked at (by.returned a d) = level at (taking a ⊕ marked Within d)
 marked at (by.bare d h) = level at (marked Within d)
-marked at (by.typed d a e) = level at (marked Within d ⊕ taking a ⊕ marked Within e)
+marked at (by.typed-ident d a e) = level at (marked Within d ⊕ taking a ⊕ marked Within e)
 marked at (by.params-of a d) = level at (taking a ⊕ marked Within d)
 marked at (by.closure-params a d) = level at (taking a ⊕ marked Within d)
 -- patterns
@@ -52,7 +52,7 @@ marked at (by.pattern-list a d) = level at (taking a ⊕ marked Within d)
 marked at (by.pattern-literal d) = level at (marked Within d)
 marked at (by.pattern-pair d a e) = level at (marked Within d ⊕ taking a ⊕ marked Within e)
 -- statements in a row
-marked at (by.body-of a d) = behind at (costs d) (marked Within a) (marked at d)
+marked at (by.exprs-of a d) = behind at (costs d) (marked Within a) (marked at d)
 marked at (by.no-stmt a) = level at (taking a)
 marked at (by.last-stmt d a) = front at _ (marked at d) (taking a)
 marked at (by.a-line d a b e) = front at _ (front at _ (front at _ (marked at d) (taking a)) (marked Within b)) (marked Within e)
@@ -74,7 +74,7 @@ marked at (by.path-items d a b e) = level at (marked Within d ⊕ taking a ⊕ t
 marked at (by.path-all d a b) = level at (marked Within d ⊕ taking a ⊕ taking b)
 marked at (by.item-alone d h) = level at (marked Within d)
 marked at (by.item-as d a e) = level at (marked Within d ⊕ taking a ⊕ marked Within e)
-marked at (by.plain d h) = opens at (costs d) (marked (opening at) d)
+marked at (by.expr-stmt d h) = opens at (costs d) (marked (opening at) d)
 marked at (by.assign d f a e) = front at _ (front at _ (opens at (costs d) (marked (opening at) d)) (taking a)) (marked Within e)
 marked at (by.typed-assign d a e b f) = front at _ (front at _ (front at _ (front at _ (opens at (costs d) (marked (opening at) d)) (taking a)) (marked Within e)) (taking b)) (marked Within f)
 marked at (by.op-assign d f c a e) = front at _ (front at _ (opens at (costs d) (marked (opening at) d)) (taking a)) (marked Within e)
@@ -90,8 +90,8 @@ marked at (by.prec-of d e) = front at _ (marked at d) (marked Within e)
 marked at (by.no-op h) = level at none
 marked at (by.binary l h a d e) = level at (taking a ⊕ marked Within d ⊕ marked Within e)
 marked at (by.type-check {q = q} l a c b e) = level at (taking a ⊕ place q ⊕ marked Within e)
-marked at (by.negated a d) = level at (taking a ⊕ marked Within d)
-marked at (by.minus a d) = level at (taking a ⊕ marked Within d)
+marked at (by.not-expr a d) = level at (taking a ⊕ marked Within d)
+marked at (by.neg-expr a d) = level at (taking a ⊕ marked Within d)
 marked at (by.tried a d e) = level at (taking a ⊕ marked Within d ⊕ marked Within e)
 marked at (by.no-unary d) = marked at d
 marked at (by.last-handler d h) = level at (marked Within d)
@@ -112,7 +112,7 @@ marked at (by.bracket-meta a b c) = level at (taking a ⊕ taking b ⊕ taking c
 marked at (by.dot-meta a b) = level at (taking a ⊕ taking b)
 marked at (by.double-colon-meta a b) = level at (taking a ⊕ taking b)
 -- atoms
-marked at (by.group a d b) = as-key at (taking a ⊕ marked Within d ⊕ taking b) (group-key a (costs d .whole) b)
+marked at (by.paren-expr a d b) = as-key at (taking a ⊕ marked Within d ⊕ taking b) (paren-key a (costs d .whole) b)
 marked at (by.name d) = level at (marked Within d)
 marked at (by.table a d) = level at (taking a ⊕ marked Within d)
 marked at (by.block-expr a e h d) = level at (taking a ⊕ marked Within e ⊕ in-block d (marked Leading d))
@@ -141,7 +141,7 @@ marked at (by.last-pattern d h) = level at (marked Within d)
 marked at (by.more-patterns d a e) = level at (marked Within d ⊕ taking a ⊕ marked Within e)
 -- the properties of a table
 marked at (by.property d e) = level at (marked Within d ⊕ marked Within e)
-marked at (by.group-key a d b c) = level at (taking a ⊕ marked Within d ⊕ taking b ⊕ taking c)
+marked at (by.paren-key a d b c) = level at (taking a ⊕ marked Within d ⊕ taking b ⊕ taking c)
 marked at (by.literal-key d a) = level at (marked Within d ⊕ taking a)
 
 -- the readings of a whole sheet

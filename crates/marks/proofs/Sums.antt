@@ -6,7 +6,7 @@ use mathlib.Core.Path.{_≡_, refl, ap, _∙_}
 use mathlib.Core.List.{List, [], _∷_, _++_}
 use Rattle.kinds.specs.Number as kind
 use Rattle.grammar.specs.Places.{Token, Place, Tok}
-use Rattle.grammar.specs.Symbols.{Stmt, Stmts, Body}
+use Rattle.grammar.specs.Symbols.{Stmt, Stmts, Exprs}
 use Rattle.grammar.specs.Derives.{Derives}
 use Rattle.grammar.specs.Derives as by
 use Rattle.complete.proofs.Cost.{takenIn, taken, spent, one-spent, Costs, flat, keyed, nameless, fronted, opened, costs}
@@ -97,8 +97,8 @@ as-key Leading {ms = ms} s e = record { sum = let i = readings-again ms in omega
 as-key First s e = record { sum = omega (arith, s .sum) }
 as-key Within s e = s
 
-pub group-key : {p q r s : Place} (a : Tok kind.OpenParen p q) (n : ℕ) (b : Tok kind.CloseParen r s) → 2 + n ≡ spent a + n + spent b
-group-key a n b = let i = one-spent a refl in let j = one-spent b refl in omega (arith, i, j)
+pub paren-key : {p q r s : Place} (a : Tok kind.OpenParen p q) (n : ℕ) (b : Tok kind.CloseParen r s) → 2 + n ≡ spent a + n + spent b
+paren-key a n b = let i = one-spent a refl in let j = one-spent b refl in omega (arith, i, j)
 
 -- so is a `fn` that opens a statement
 twice : {k : ℕ} {p q : Place} (t : Tok k p q) → Sums (again (token t)) (spent t + spent t)
@@ -118,7 +118,7 @@ no-fn-stmt (by.effect-stmt d) = refl
 no-fn-stmt (by.glo-fn a b d e) = refl
 no-fn-stmt (by.glo-effect a d) = refl
 no-fn-stmt (by.glo-assign a d b e) = refl
-no-fn-stmt (by.plain d h) = refl
+no-fn-stmt (by.expr-stmt d h) = refl
 no-fn-stmt (by.assign d f a e) = refl
 no-fn-stmt (by.typed-assign d a e b f) = refl
 no-fn-stmt (by.op-assign d f c a e) = refl
@@ -131,10 +131,10 @@ no-fn-stmts (by.no-stmt a) = refl
 no-fn-stmts (by.last-stmt d a) = no-fn-stmt d
 no-fn-stmts (by.a-line d a b e) = no-fn-stmt d
 
-no-fn : {text : List ℕ} {end : ℕ} {p q : Place} (d : Derives text (Body end) p q) → costs d .fn ≡ 0
+no-fn : {text : List ℕ} {end : ℕ} {p q : Place} (d : Derives text (Exprs end) p q) → costs d .fn ≡ 0
 unfolding costs
-no-fn (by.body-of a d) = no-fn-stmts d
+no-fn (by.exprs-of a d) = no-fn-stmts d
 
 -- the statements of a block that is an expression
-pub in-block : {text : List ℕ} {end : ℕ} {p q : Place} {ms : List ℕ} (d : Derives text (Body end) p q) → Sums ms (total Leading (costs d)) → Sums ms (costs d .key + costs d .whole)
+pub in-block : {text : List ℕ} {end : ℕ} {p q : Place} {ms : List ℕ} (d : Derives text (Exprs end) p q) → Sums ms (total Leading (costs d)) → Sums ms (costs d .key + costs d .whole)
 in-block d s = record { sum = let i = no-fn d in omega (arith, i, s .sum) }

@@ -76,7 +76,7 @@ marksAt at (by.others a d b c e) = token a ++ marksAt Within d ++ token b ++ tok
 marksAt at (by.no-type h) = []
 marksAt at (by.returned a d) = token a ++ marksAt Within d
 marksAt at (by.bare d h) = marksAt Within d
-marksAt at (by.typed d a e) = marksAt Within d ++ token a ++ marksAt Within e
+marksAt at (by.typed-ident d a e) = marksAt Within d ++ token a ++ marksAt Within e
 marksAt at (by.params-of a d) = token a ++ marksAt Within d
 marksAt at (by.closure-params a d) = token a ++ marksAt Within d
 -- patterns
@@ -86,7 +86,7 @@ marksAt at (by.pattern-list a d) = token a ++ marksAt Within d
 marksAt at (by.pattern-literal d) = marksAt Within d
 marksAt at (by.pattern-pair d a e) = marksAt Within d ++ token a ++ marksAt Within e
 -- statements in a row
-marksAt at (by.body-of a d) = marksAt Within a ++ marksAt at d
+marksAt at (by.exprs-of a d) = marksAt Within a ++ marksAt at d
 marksAt at (by.no-stmt a) = token a
 marksAt at (by.last-stmt d a) = marksAt at d ++ token a
 marksAt at (by.a-line d a b e) = marksAt at d ++ token a ++ marksAt Within b ++ marksAt Within e
@@ -108,7 +108,7 @@ marksAt at (by.path-items d a b e) = marksAt Within d ++ token a ++ token b ++ m
 marksAt at (by.path-all d a b) = marksAt Within d ++ token a ++ token b
 marksAt at (by.item-alone d h) = marksAt Within d
 marksAt at (by.item-as d a e) = marksAt Within d ++ token a ++ marksAt Within e
-marksAt at (by.plain d h) = marksAt (opening at) d
+marksAt at (by.expr-stmt d h) = marksAt (opening at) d
 marksAt at (by.assign d f a e) = marksAt (opening at) d ++ token a ++ marksAt Within e
 marksAt at (by.typed-assign d a e b f) = marksAt (opening at) d ++ token a ++ marksAt Within e ++ token b ++ marksAt Within f
 marksAt at (by.op-assign d f c a e) = marksAt (opening at) d ++ token a ++ marksAt Within e
@@ -124,8 +124,8 @@ marksAt at (by.prec-of d e) = marksAt at d ++ marksAt Within e
 marksAt at (by.no-op h) = []
 marksAt at (by.binary l h a d e) = token a ++ marksAt Within d ++ marksAt Within e
 marksAt at (by.type-check {q = q} l a c b e) = token a ++ mark q ++ marksAt Within e
-marksAt at (by.negated a d) = token a ++ marksAt Within d
-marksAt at (by.minus a d) = token a ++ marksAt Within d
+marksAt at (by.not-expr a d) = token a ++ marksAt Within d
+marksAt at (by.neg-expr a d) = token a ++ marksAt Within d
 marksAt at (by.tried a d e) = token a ++ marksAt Within d ++ marksAt Within e
 marksAt at (by.no-unary d) = marksAt at d
 marksAt at (by.last-handler d h) = marksAt Within d
@@ -146,7 +146,7 @@ marksAt at (by.bracket-meta a b c) = token a ++ token b ++ token c
 marksAt at (by.dot-meta a b) = token a ++ token b
 marksAt at (by.double-colon-meta a b) = token a ++ token b
 -- atoms
-marksAt at (by.group a d b) = asKey at (token a ++ marksAt Within d ++ token b)
+marksAt at (by.paren-expr a d b) = asKey at (token a ++ marksAt Within d ++ token b)
 marksAt at (by.name d) = marksAt Within d
 marksAt at (by.table a d) = token a ++ marksAt Within d
 marksAt at (by.block-expr a e h d) = token a ++ marksAt Within e ++ marksAt Leading d
@@ -175,7 +175,7 @@ marksAt at (by.last-pattern d h) = marksAt Within d
 marksAt at (by.more-patterns d a e) = marksAt Within d ++ token a ++ marksAt Within e
 -- the properties of a table
 marksAt at (by.property d e) = marksAt Within d ++ marksAt Within e
-marksAt at (by.group-key a d b c) = token a ++ marksAt Within d ++ token b ++ token c
+marksAt at (by.paren-key a d b c) = token a ++ marksAt Within d ++ token b ++ token c
 marksAt at (by.literal-key d a) = marksAt Within d ++ token a
 
 -- the marks of a derivation's tokens

@@ -47,7 +47,7 @@ appended l first s w = branch (ltb (s .nodes) (min (length (w .nodes) / nodeWord
 
 program-recorded : (r : Inner) (s : State) (w : World) → Ends Kept Any (program r s w)
 unfolding program programRecord
-program-recorded r s w = after (start (r .sheet) s w) (λ s1 w1 from. after (r .body kind.Eof s1 w1) (λ s2 w2 row. appended _ _ s2 w2))
+program-recorded r s w = after (start (r .sheet) s w) (λ s1 w1 from. after (r .exprs kind.Eof s1 w1) (λ s2 w2 row. appended _ _ s2 w2))
 
 -- an end that is told as 0 is a reading with a record
 counted : {m : Mark} {o p : Out ℕ} (n e x : List ℕ) → Ends Kept Any o → Twins m o p → finished n e x o .number ≡ 0 → 0 < finished n e x o .nodes

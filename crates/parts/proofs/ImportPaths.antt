@@ -20,7 +20,8 @@ use Rattle.parts.specs.declared.imports.Imported.{Imported}
 use Rattle.parts.specs.Answers.{onPath}
 use Rattle.parts.specs.Values.{uncounted}
 use Rattle.parts.specs.Until.{itemsUntil}
-use Rattle.parts.specs.Imports.{imported, endChain, tailChain, importItem, importItems, importEnd, importTail, pathTurn, importStmt}
+use Rattle.parts.specs.Imports.{imported, importItem, importItems, importSimple, importAlias, importEnd, importTail, pathTurn, importStmt}
+use Rattle.parts.proofs.Placed.{endChain, tailChain, import-end-placed, import-tail-placed}
 
 -- an item
 module _ (e : Sheet) (s : State) (w : World) {from : ℕ} (f : from ≡ startOf (rangeAt (e .tokens) (s .at))) where
@@ -52,62 +53,57 @@ module _ (e : Sheet) (kids : Kids) (s : State) (w : World) where
   items-are = refl
 
   -- behind a path
-  pub end-full : {x : Stop} → pick e endChain s w ≡ failed x → importEnd e kids s w ≡ failed x
-  unfolding importEnd
-  end-full p = rw p
+  pub end-full : {x : Stop} → pick e (endChain e) s w ≡ failed x → importEnd e kids s w ≡ failed x
+  unfolding importSimple importAlias
+  end-full p = rw (import-end-placed e kids) (rw p)
 
-  module _ {which : ℕ} {s1 : State} {w1 : World} (p : pick e endChain s w ≡ done s1 w1 which) where
+  module _ {which : ℕ} {s1 : State} {w1 : World} (p : pick e (endChain e) s w ≡ done s1 w1 which) where
     pub end-plain : {i : Imported} → which ≡ 0 → i ≡ imported kids (kids .count) 0 false false → importEnd e kids s w ≡ done s1 w1 (stop i)
-    unfolding importEnd
-    end-plain a b = rw p (rw (eq-eqb _ _ a) (rw b))
+    unfolding importSimple importAlias
+    end-plain a b = rw (import-end-placed e kids) (rw p (rw (eq-eqb _ _ a) (rw b)))
 
     module _ (a : which ≡ 0 → ⊥) where
       pub end-other : 1 < which → importEnd e kids s w ≡ failed (fault s1 w1 (unexpectedAt e s1))
-      unfolding importEnd unexpected
-      end-other b = rw p (rw (ne-eqb _ _ a) (rw (lt-ltb _ _ b)))
+      unfolding importSimple importAlias unexpected
+      end-other b = rw (import-end-placed e kids) (rw p (rw (ne-eqb _ _ a) (rw (lt-ltb _ _ b))))
 
       module _ (b : which ≤ 1) where
         pub end-spent : {x : Stop} → bump e s1 w1 ≡ failed x → importEnd e kids s w ≡ failed x
-        unfolding importEnd
-        end-spent q = rw p (rw (ne-eqb _ _ a) (rw (le-ltb _ _ b) (rw q)))
+        unfolding importSimple importAlias
+        end-spent q = rw (import-end-placed e kids) (rw p (rw (ne-eqb _ _ a) (rw (le-ltb _ _ b) (rw q))))
 
         module _ {s2 : State} {w2 : World} (q : bump e s1 w1 ≡ done s2 w2 tt) where
           pub end-lost : {x : Stop} → ident e s2 w2 ≡ failed x → importEnd e kids s w ≡ failed x
-          unfolding importEnd
-          end-lost r = rw p (rw (ne-eqb _ _ a) (rw (le-ltb _ _ b) (rw q (rw r))))
+          unfolding importSimple importAlias
+          end-lost r = rw (import-end-placed e kids) (rw p (rw (ne-eqb _ _ a) (rw (le-ltb _ _ b) (rw q (rw r)))))
 
           pub end-alias : {alias : ℕ} {longer : Kids} {i : Imported} {s3 : State} {w3 w4 : World} → ident e s2 w2 ≡ done s3 w3 alias → done s3 w4 longer ≡ add kids alias s3 w3 → i ≡ imported longer (kids .count) 0 true false → importEnd e kids s w ≡ done s3 w4 (stop i)
-          unfolding importEnd
-          end-alias r c d = rw p (rw (ne-eqb _ _ a) (rw (le-ltb _ _ b) (rw q (rw r (rw (← c) (rw d))))))
+          unfolding importSimple importAlias
+          end-alias r c d = rw (import-end-placed e kids) (rw p (rw (ne-eqb _ _ a) (rw (le-ltb _ _ b) (rw q (rw r (rw (← c) (rw d)))))))
 
   -- behind a path's `::`
-  pub tail-full : {x : Stop} → pick e tailChain s w ≡ failed x → importTail e kids s w ≡ failed x
-  unfolding importTail
-  tail-full p = rw p
+  pub tail-full : {x : Stop} → pick e (tailChain e) s w ≡ failed x → importTail e kids s w ≡ failed x
+  tail-full p = rw (import-tail-placed e kids) (rw p)
 
-  module _ {which : ℕ} {s1 : State} {w1 : World} (p : pick e tailChain s w ≡ done s1 w1 which) where
+  module _ {which : ℕ} {s1 : State} {w1 : World} (p : pick e (tailChain e) s w ≡ done s1 w1 which) where
     pub tail-other : 1 < which → importTail e kids s w ≡ failed (fault s1 w1 (unexpectedAt e s1))
-    unfolding importTail unexpected
-    tail-other b = rw p (rw (lt-ltb _ _ b))
+    unfolding unexpected
+    tail-other b = rw (import-tail-placed e kids) (rw p (rw (lt-ltb _ _ b)))
 
     module _ (b : which ≤ 1) where
       pub tail-spent : {x : Stop} → bump e s1 w1 ≡ failed x → importTail e kids s w ≡ failed x
-      unfolding importTail
-      tail-spent q = rw p (rw (le-ltb _ _ b) (rw q))
+      tail-spent q = rw (import-tail-placed e kids) (rw p (rw (le-ltb _ _ b) (rw q)))
 
       module _ {s2 : State} {w2 : World} (q : bump e s1 w1 ≡ done s2 w2 tt) where
         pub tail-glob : which ≡ 1 → importTail e kids s w ≡ done s2 w2 (stop (imported kids (kids .count) 0 true true))
-        unfolding importTail
-        tail-glob a = rw p (rw (le-ltb _ _ b) (rw q (rw (eq-eqb _ _ a))))
+        tail-glob a = rw (import-tail-placed e kids) (rw p (rw (le-ltb _ _ b) (rw q (rw (eq-eqb _ _ a)))))
 
         module _ (a : which ≡ 1 → ⊥) where
           pub tail-failed : {x : Stop} → importItems e (uncounted kids) s2 w2 ≡ failed x → importTail e kids s w ≡ failed x
-          unfolding importTail
-          tail-failed r = rw p (rw (le-ltb _ _ b) (rw q (rw (ne-eqb _ _ a) (rw r))))
+          tail-failed r = rw (import-tail-placed e kids) (rw p (rw (le-ltb _ _ b) (rw q (rw (ne-eqb _ _ a) (rw r)))))
 
           pub tail-items : {i : Items} {s3 : State} {w3 : World} → importItems e (uncounted kids) s2 w2 ≡ done s3 w3 i → importTail e kids s w ≡ done s3 w3 (stop (imported (i .kids) (kids .count) (i .kids .count) false true))
-          unfolding importTail
-          tail-items r = rw p (rw (le-ltb _ _ b) (rw q (rw (ne-eqb _ _ a) (rw r))))
+          tail-items r = rw (import-tail-placed e kids) (rw p (rw (le-ltb _ _ b) (rw q (rw (ne-eqb _ _ a) (rw r)))))
 
   -- one name of the path
   pub path-failed : {x : Stop} → ident e s w ≡ failed x → pathTurn e (onPath kids) s w ≡ failed x

@@ -1,25 +1,24 @@
 -- What the rules of `import` keep, and that each name of a path takes a token.
-use mathlib.Core.Path.{_≡_, refl}
+use mathlib.Core.Path.{refl}
 use Prim.Native.Nat.{ℕ}
-use lib.Dec.{ltb, eqb}
 use Rattle.kinds.specs.Number as kind
 use Rattle.cursor.specs.declared.Kids.{Kids}
 use Rattle.cursor.specs.declared.Ranged.{Ranged}
 use Rattle.cursor.specs.declared.Ranged.the-variants as ranged
 use Rattle.cursor.specs.Node as node
 use Rattle.cursor.specs.Sheet.{Sheet, rangeAt}
-use Rattle.cursor.specs.Rule.{_>>=_, _>>_}
 use Rattle.cursor.specs.Records.{noKids}
 use Rattle.cursor.proofs.Loops.{Takes}
+use Rattle.cursor.proofs.Chosen.{all, _&_}
 use Rattle.cursor.proofs.Keeps.{Mark, Keeps, Plain, Nexts, ground, gives, ifs, plain, binds, thens, loops}
-use Rattle.cursor.proofs.Kept.{bump-keeps, check-keeps, eat-keeps, unexpected-keeps, pick-keeps, append-keeps, add-keeps, nothing, Fresh, RowFor, fresh-mine, ground-mine}
+use Rattle.cursor.proofs.Kept.{bump-keeps, check-keeps, eat-keeps, unexpected-keeps, chooses, append-keeps, add-keeps, nothing, Fresh, RowFor, fresh-mine, ground-mine}
 use Rattle.cursor.proofs.Spends.{Spends, takes, first-spends}
 use Rattle.cursor.proofs.Spent.{expect-spends, unexpected-spends}
 use Rattle.types.specs.Lits.{identAt, ident}
 use Rattle.types.proofs.ItemKeeps.{ItemsFor, start-keeps, close-keeps, ident-keeps}
 use Rattle.parts.specs.declared.imports.Imported.{Imported}
 use Rattle.parts.specs.Values.{uncounted}
-use Rattle.parts.specs.Imports.{endChain, tailChain, importItem, importItems, importEnd, importTail, pathTurn, importStmt}
+use Rattle.parts.specs.Imports.{endCases, tailCases, importSimple, importAlias, importNested, importGlob, importItem, importItems, importEnd, importTail, pathTurn, importStmt}
 use Rattle.parts.proofs.UntilPaths.{until-keeps}
 
 -- a name takes a token
@@ -48,16 +47,13 @@ module _ {m : Mark} (e : Sheet) where
   items-keep kids h = until-keeps e (importItem e) kind.CloseBrace item-keeps kids h
 
   end-keeps : (kids : Kids) → RowFor m kids → Keeps m (Nexts (PathFor m)) (importEnd e kids)
-  unfolding importEnd
+  unfolding importEnd importSimple importAlias
   end-keeps kids h =
-      binds (pick-keeps e endChain 0) (λ which _. ifs (eqb which 0) (gives h) (ifs (ltb 1 which) (unexpected-keeps e)
-      (thens (bump-keeps e) (binds (ident-keeps e) (λ alias f. binds (add-keeps kids alias h (fresh-mine alias f)) (λ longer g. gives g))))))
+      chooses e (endCases e kids) (gives h & thens (bump-keeps e) (binds (ident-keeps e) (λ alias f. binds (add-keeps kids alias h (fresh-mine alias f)) (λ longer g. gives g))) & all) (unexpected-keeps e)
 
   tail-keeps : (kids : Kids) → RowFor m kids → Keeps m (Nexts (PathFor m)) (importTail e kids)
-  unfolding importTail
-  tail-keeps kids h =
-      binds (pick-keeps e tailChain 0) (λ which _. ifs (ltb 1 which) (unexpected-keeps e)
-      (thens (bump-keeps e) (ifs (eqb which 1) (gives h) (binds (items-keep (uncounted kids) h) (λ i g. gives g)))))
+  unfolding importTail importNested importGlob
+  tail-keeps kids h = chooses e (tailCases e kids) (thens (bump-keeps e) (binds (items-keep (uncounted kids) h) (λ i g. gives g)) & thens (bump-keeps e) (gives h) & all) (unexpected-keeps e)
 
   path-keeps : (i : Imported) → PathFor m i → Keeps m (Nexts (PathFor m)) (pathTurn e i)
   unfolding pathTurn

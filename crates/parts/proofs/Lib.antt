@@ -2,6 +2,7 @@ pub mod AttemptPaths
 pub mod EffectPaths
 pub mod ImportPaths
 pub mod ImportTakes
+pub mod Placed
 pub mod RecordPaths
 pub mod RecoveryPaths
 pub mod SkipTakes

@@ -1,9 +1,7 @@
 -- Each way through the records of expressions.
-use mathlib.Core.Path.{_≡_, refl, ap, _∙_}
+use mathlib.Core.Path.{_≡_, refl, ap}
 use mathlib.Core.Bool.{Bool, true, false}
-use Prim.Native.Nat.{ℕ, zero, suc, _+_, _<_, _≤_}
-use native.Mathlib.Omega.{arith}
-use lib.ListN.{getD, List·getD-eq-default}
+use Prim.Native.Nat.{ℕ, zero, suc}
 use lib.Dec.{ltb}
 use borrow.Author.Tests.{eq-eqb, ne-eqb}
 use Rattle.cursor.specs.declared.State.{State}
@@ -21,7 +19,7 @@ use Rattle.parts.specs.declared.values.Called.{Called}
 use Rattle.parts.specs.declared.values.Expr.{Expr}
 use Rattle.parts.specs.declared.values.Expr.the-variants as exprs
 use Rattle.parts.specs.Forms as forms
-use Rattle.parts.specs.Values.{linkOf, atomExpr, memberOf, memberKinds, metaKinds, memberKind, uncounted}
+use Rattle.parts.specs.Values.{linkOf, atomExpr, memberOf, uncounted}
 use Rattle.parts.specs.Records.{couple, rowRecord, listRecord, wrapped, blockRecord, fnRecord, functionRecord, handlerRecord, handlersFlagged, ifRecord, roundRecord, callRecord, memberRecord}
 
 -- what goes on from an answer that is handed over, once it is told apart
@@ -34,28 +32,6 @@ atom-name which link p = rw (eq-eqb _ _ p, atomExpr)
 
 pub atom-other : (which link : ℕ) → (which ≡ forms.Ident → ⊥) → atomExpr which link ≡ exprs.Other link
 atom-other which link p = rw (ne-eqb _ _ p, atomExpr)
-
--- which member it is
-kinds-placed : (which : ℕ) → which ≤ 2 → (getD memberKinds which 0 ≡ which) × (getD metaKinds which 0 ≡ which + 3)
-kinds-placed zero h = (refl, refl)
-kinds-placed (suc zero) h = (refl, refl)
-kinds-placed (suc (suc zero)) h = (refl, refl)
-kinds-placed (suc (suc (suc which))) h = absurd (omega (arith, h))
-
-pub kind-none : (which link : ℕ) → 2 < which → memberKind which link ≡ 0
-kind-none which zero h = List·getD-eq-default metaKinds 0 h
-kind-none which (suc link) h = List·getD-eq-default memberKinds 0 h
-
-module _ (which link : ℕ) (h : which ≤ 2) where
-  pub kind-meta : link ≡ 0 → memberKind which link ≡ which + 3
-  kind-meta p = rw p (kinds-placed which h .1)
-
-  pub kind-property : (link ≡ 0 → ⊥) → memberKind which link ≡ which
-  kind-property p = by link p
-    where
-      by : (a : ℕ) → (a ≡ 0 → ⊥) → memberKind which a ≡ which
-      by zero q = absurd (q refl)
-      by (suc a) q = kinds-placed which h .0
 
 -- a member as an expression
 pub member-safe : (x : Expr) (link : ℕ) {safe : Ranged} {r : Span} → safe ≡ ranged.At r → memberOf x safe link ≡ exprs.Other link
@@ -152,11 +128,11 @@ module _ (s : State) (w : World) where
     unfolding callRecord
     call-on q = rw (← p) (rw (← f) (rw q))
 
-  module _ (from : ℕ) (safe : Ranged) (which : ℕ) (x : Expr) (link : ℕ) {table which-kind flags : ℕ} {one all : Kids} {w1 w2 : World} {mark : Span} {b : Bool} (t : table ≡ linkOf x) (p : done s w1 one ≡ add noKids table s w) (q : done s w2 all ≡ addSome one link s w1) (m : mark ≡ spanOf safe) (n : which-kind ≡ memberKind which link) (ended : b ≡ isEnded safe) (f : flags ≡ flagged which-kind 0 b false) where
-    pub member-failed : {y : Stop} → close node.Member from (mark .start) (mark .end) flags (all .first) s w2 ≡ failed y → memberRecord from safe which x link s w ≡ failed y
+  module _ (from : ℕ) (safe : Ranged) (member : ℕ) (x : Expr) (link : ℕ) {table flags : ℕ} {one all : Kids} {w1 w2 : World} {mark : Span} {b : Bool} (t : table ≡ linkOf x) (p : done s w1 one ≡ add noKids table s w) (q : done s w2 all ≡ addSome one link s w1) (m : mark ≡ spanOf safe) (ended : b ≡ isEnded safe) (f : flags ≡ flagged member 0 b false) where
+    pub member-failed : {y : Stop} → close node.Member from (mark .start) (mark .end) flags (all .first) s w2 ≡ failed y → memberRecord from safe member x link s w ≡ failed y
     unfolding memberRecord
-    member-failed r = rw (← t, ← p) (rw (← q) (rw (← m, ← n, ← ended) (rw (← f) (rw r))))
+    member-failed r = rw (← t, ← p) (rw (← q) (rw (← m, ← ended) (rw (← f) (rw r))))
 
-    pub member-on : {l : ℕ} {y : Expr} {s3 : State} {w3 : World} → close node.Member from (mark .start) (mark .end) flags (all .first) s w2 ≡ done s3 w3 l → y ≡ memberOf x safe l → memberRecord from safe which x link s w ≡ done s3 w3 (more y)
+    pub member-on : {l : ℕ} {y : Expr} {s3 : State} {w3 : World} → close node.Member from (mark .start) (mark .end) flags (all .first) s w2 ≡ done s3 w3 l → y ≡ memberOf x safe l → memberRecord from safe member x link s w ≡ done s3 w3 (more y)
     unfolding memberRecord
-    member-on r y = rw (← t, ← p) (rw (← q) (rw (← m, ← n, ← ended) (rw (← f) (rw r (rw y)))))
+    member-on r y = rw (← t, ← p) (rw (← q) (rw (← m, ← ended) (rw (← f) (rw r (rw y)))))

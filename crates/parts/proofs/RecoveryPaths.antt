@@ -18,18 +18,19 @@ use Rattle.cursor.specs.Attempts.{unbuilt, recover}
 use Rattle.cursor.specs.Answers.{asStop}
 use Rattle.cursor.proofs.Failures.{an-error, a-refusal}
 use Rattle.types.specs.Items.{addSome}
-use Rattle.parts.specs.Recovery.{undo, skipTurn, skip, skipped, recovering, logHere, lineEnd, afterStmt}
+use Rattle.parts.specs.Recovery.{undone, skipTurn, skip, skipped, recovering, logHere, lineEnd, afterStmt}
+use Rattle.parts.proofs.Placed.{skip-turn-placed}
 
 -- a rule that failed by an error
 pub stopped : {A : Type 0} {o : Out A} (w : World) {f : Failure} → o ≡ failed (asStop f w) → f .number ≤ 0 → o ≡ failed (fault (f .state) w (f .fault))
 stopped w {f} p h = p ∙ ap failed (an-error f w h)
 
 module _ (mark : State) (w : World) (lost : Failure) where
-  pub undo-fault : {back : State} → lost .number ≤ 0 → back ≡ rewind mark (lost .state) → undo mark (asStop lost w) ≡ done back w tt
-  undo-fault h q = rw (an-error lost w h) (rw q)
+  pub undone-fault : {back : State} → lost .number ≤ 0 → back ≡ rewind mark (lost .state) → undone mark (asStop lost w) ≡ done back w tt
+  undone-fault h q = rw (an-error lost w h) (rw q)
 
-  pub undo-refused : 0 < lost .number → undo mark (asStop lost w) ≡ failed (asStop lost w)
-  undo-refused h = rw (a-refusal lost w h)
+  pub undone-refused : 0 < lost .number → undone mark (asStop lost w) ≡ failed (asStop lost w)
+  undone-refused h = rw (a-refusal lost w h)
 
 module _ (e : Sheet) (end : ℕ) (s : State) (w : World) where
   pub skip-is : skip e end s w ≡ iterate e (skipTurn e end) tt s w
@@ -37,21 +38,17 @@ module _ (e : Sheet) (end : ℕ) (s : State) (w : World) where
   skip-is = refl
 
   pub skip-full : {x : Stop} → pick e (kind.Eol ∷ kind.Eof ∷ end ∷ []) s w ≡ failed x → skipTurn e end tt s w ≡ failed x
-  unfolding skipTurn
-  skip-full p = rw p
+  skip-full p = rw (skip-turn-placed e end tt) (rw p)
 
   module _ {which : ℕ} {s1 : State} {w1 : World} (p : pick e (kind.Eol ∷ kind.Eof ∷ end ∷ []) s w ≡ done s1 w1 which) where
     pub skip-here : which < 3 → skipTurn e end tt s w ≡ done s1 w1 (stop tt)
-    unfolding skipTurn
-    skip-here q = rw p (rw (lt-ltb _ _ q))
+    skip-here q = rw (skip-turn-placed e end tt) (rw p (rw (lt-ltb _ _ q)))
 
     pub skip-spent : {x : Stop} → 3 ≤ which → bump e s1 w1 ≡ failed x → skipTurn e end tt s w ≡ failed x
-    unfolding skipTurn
-    skip-spent q r = rw p (rw (le-ltb _ _ q) (rw r))
+    skip-spent q r = rw (skip-turn-placed e end tt) (rw p (rw (le-ltb _ _ q) (rw r)))
 
     pub skip-more : {s2 : State} {w2 : World} → 3 ≤ which → bump e s1 w1 ≡ done s2 w2 tt → skipTurn e end tt s w ≡ done s2 w2 (more tt)
-    unfolding skipTurn
-    skip-more q r = rw p (rw (le-ltb _ _ q) (rw r))
+    skip-more q r = rw (skip-turn-placed e end tt) (rw p (rw (le-ltb _ _ q) (rw r)))
 
   pub skipped-failed : {x : Stop} → skip e end s w ≡ failed x → skipped e end s w ≡ failed x
   unfolding skipped

@@ -1,5 +1,5 @@
 -- Each turn of skipping takes a token: Eof is among the kinds that stop it, so where none of them stands here a token does.
-use mathlib.Core.Path.{_≡_, refl, sym, _∙_}
+use mathlib.Core.Path.{_≡_, refl, sym, _∙_, subst}
 use mathlib.Core.Bool.{Bool, true, false}
 use mathlib.Core.List.{List, [], _∷_}
 use Prim.Native.Nat.{ℕ, suc, _+_, _<_, _≤_}
@@ -14,9 +14,10 @@ use Rattle.cursor.specs.Rule.{World, Out, give, ifSo}
 use Rattle.cursor.specs.Checks.{liveRoom, want, check, pickFrom}
 use Rattle.cursor.proofs.Ends.{Ends, well, cut, Any, branch, then, weaken}
 use Rattle.cursor.proofs.Loops.{Takes}
-use Rattle.cursor.proofs.Spends.{takes}
+use Rattle.cursor.proofs.Spends.{Spends, Further, takes}
 use Rattle.cursor.proofs.TokenPaths.{there, bump-takes}
 use Rattle.parts.specs.Recovery.{skipTurn}
+use Rattle.parts.proofs.Placed.{skip-turn-placed}
 
 -- is Eof one of these kinds?
 abbrev hasEof : List ℕ → Bool
@@ -54,9 +55,9 @@ module _ (e : Sheet) where
       by s1 w1 false q f x = weaken x (λ s2 w2 j g. (g .0 ∙ q, λ h. among s1 j (eqb k kind.Eof) q (λ t. f (refl, t)) (g .1) (h .0) (h .1))) (λ _ _ _ _. tt)
 
   pub skip-takes : (end : ℕ) → Takes e (skipTurn e end)
-  unfolding skipTurn count
-  skip-takes end = takes (λ a. record {
+  unfolding count
+  skip-takes end = takes (λ a. subst (Spends e Further) (sym (skip-turn-placed e end a)) (record {
     ends = λ s w. then (pick-sees (kind.Eol ∷ kind.Eof ∷ end ∷ []) 0 s w) (λ _ _ _ _. tt) (λ s1 w1 j f. branch (ltb j 3)
         (λ _. well (λ x. absurd x))
         (λ p. let here = f .1 (ltb-false j 3 p, refl) in let q = f .0 in then (bump-takes e s1 w1 (omega arith)) (λ _ _ _ _. tt) (λ s2 w2 _ l. well (λ _. omega arith))));
-  })
+  }))

@@ -1,5 +1,5 @@
--- The forms of an atom by name: the place of each kind in the chain of parse_expr_atom, `atomChain` of crates/rules/specs/Atoms.antt
--- (`forms-placed` in its proofs/Places.antt).
+-- The forms of an atom by name, for the code: the place of each kind in the chain of parse_expr_atom. That they are the places of those kinds is `forms-placed`
+-- (crates/rules/proofs/Placed.antt).
 use Prim.Native.Nat.{ℕ}
 
 abbrev pub OpenParen : ℕ

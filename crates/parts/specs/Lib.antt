@@ -1,4 +1,5 @@
 pub mod Forms
+pub mod Members
 pub mod Values
 pub mod Answers
 pub mod When

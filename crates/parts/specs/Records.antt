@@ -8,13 +8,13 @@ use Rattle.cursor.specs.Node as node
 use Rattle.cursor.specs.Rule.{Rule, _>>=_, _>>_, give, Next, more}
 use Rattle.cursor.specs.Records.{add, reflag, noKids, flagged}
 use Rattle.types.specs.declared.items.Items.{Items}
-use Rattle.types.specs.Items.{close, addSome, isEnded}
+use Rattle.types.specs.Items.{close, over, addSome, isEnded}
 use Rattle.types.specs.Patterns.{spanOf}
 use Rattle.parts.specs.declared.values.Called.{Called}
 use Rattle.parts.specs.declared.values.Expr.{Expr}
 use Rattle.parts.specs.declared.values.Expr.the-variants as exprs
 use Rattle.parts.specs.Forms as forms
-use Rattle.parts.specs.Values.{linkOf, memberOf, memberKind, uncounted}
+use Rattle.parts.specs.Values.{linkOf, memberOf, uncounted}
 use Rattle.parts.specs.When.{when}
 
 -- a record over two children with one word of its own
@@ -34,10 +34,10 @@ rowRecord k from kids link = do
 unfoldable pub listRecord : ℕ → ℕ → Items → Rule ℕ
 listRecord k from i = close k from 0 0 (flagged (i .kids .count) 0 false false) (i .kids .first)
 
--- perhaps a record of another kind over one alone
+-- perhaps a record of another kind over one alone: node.None is none
 unfoldable pub wrapped : ℕ → ℕ → ℕ → Rule ℕ
 wrapped zero from link = give link
-wrapped (suc k) from link = close (suc k) from 0 0 0 link
+wrapped (suc k) from link = over (suc k) from link
 
 -- the record of a block over its statements
 unfoldable pub blockRecord : ℕ → ℕ → ℕ → Kids → Rule ℕ
@@ -82,7 +82,7 @@ ifRecord from kids link = do
 
 -- `while`, or `for` over its names, its expression and its block
 unfoldable pub roundRecord : ℕ → ℕ → ℕ → Kids → Rule ℕ
-roundRecord from which names kids = when (eqb which forms.While) (close node.While from 0 0 0 (kids .first)) (close node.For from 0 0 (flagged names 0 false false) (kids .first))
+roundRecord from which names kids = when (eqb which forms.While) (over node.While from (kids .first)) (close node.For from 0 0 (flagged names 0 false false) (kids .first))
 
 -- a Call over its callee, its arguments and its trailing lambda, where it has one; handlers may still join it
 unfoldable pub callRecord : ℕ → Kids → ℕ → Rule (Next Expr)
@@ -91,10 +91,10 @@ callRecord from kids lambda = do
   link ← close node.Call from 0 0 (flagged (kids .count) 0 (ltb 0 lambda) false) (all .first)
   give (more (exprs.Call link (record { kids = uncounted all; arguments = kids .count; lambda = ltb 0 lambda })))
 
--- a member over its table and its property, where it has one; `?` is words of it
+-- a member of a kind over its table and its property, where it has one; `?` is words of it
 unfoldable pub memberRecord : ℕ → Ranged → ℕ → Expr → ℕ → Rule (Next Expr)
-memberRecord from safe which x link = do
+memberRecord from safe member x link = do
   one ← add noKids (linkOf x)
   all ← addSome one link
-  m ← close node.Member from (spanOf safe .start) (spanOf safe .end) (flagged (memberKind which link) 0 (isEnded safe) false) (all .first)
+  m ← close node.Member from (spanOf safe .start) (spanOf safe .end) (flagged member 0 (isEnded safe) false) (all .first)
   give (more (memberOf x safe m))

@@ -1,32 +1,31 @@
 -- Undone attempts, recovery, and what follows a statement: the parts of parse_exprs.
 use Prim.Native.Nat.{ℕ}
-use mathlib.Core.List.{[], _∷_}
-use lib.Dec.{ltb}
+use mathlib.Core.List.{List, [], _∷_}
 use Rattle.kinds.specs.Number as kind
 use Rattle.cursor.specs.declared.State.{State}
 use Rattle.cursor.specs.declared.Kids.{Kids}
 use Rattle.cursor.specs.Sheet.{Sheet}
 use Rattle.cursor.specs.Rule.{Stop, fault, refused, Out, done, failed, Rule, _>>=_, _>>_, orElse, give, ifSo, Next, more, stop, Turn, iterate}
 use Rattle.cursor.specs.Tokens.{bump, eatEol, rewind}
-use Rattle.cursor.specs.Checks.{check, eat, expect, pick, unexpectedAt}
-use Rattle.cursor.specs.Records.{log}
+use Rattle.cursor.specs.Checks.{check, eat, expect, Case, _⇒_, choose, unexpectedAt}
+use Rattle.cursor.specs.Records.{noLink, log}
 use Rattle.cursor.specs.Attempts.{unbuilt, recover}
 use Rattle.types.specs.Items.{addSome}
-use Rattle.parts.specs.When.{when}
 
 -- a failed attempt is undone; a refusal ends the whole reading
-abbrev pub undo : State → Stop → Out Unit
-undo mark (fault s w f) = done (rewind mark s) w tt
-undo mark (refused n) = failed (refused n)
+abbrev pub undone : State → Stop → Out Unit
+undone mark (fault s w f) = done (rewind mark s) w tt
+undone mark (refused n) = failed (refused n)
 
 module _ (e : Sheet) where
   -- past all tokens up to Eol, Eof or the end of the statements
+  abbrev pub skipCases : ℕ → List (Case (Next Unit))
+  skipCases end = kind.Eol ⇒ give (stop tt) ∷ kind.Eof ⇒ give (stop tt) ∷ end ⇒ give (stop tt) ∷ []
+
   unfoldable pub skipTurn : ℕ → Turn Unit
-  skipTurn end a = do
-    which ← pick e (kind.Eol ∷ kind.Eof ∷ end ∷ [])
-    when (ltb which 3) (give (stop tt)) (do
-      bump e
-      give (more tt))
+  skipTurn end a = choose e (skipCases end) (do
+    bump e
+    give (more tt))
 
   unfoldable pub skip : ℕ → Rule Unit
   skip end = iterate e (skipTurn end) tt
@@ -35,7 +34,7 @@ module _ (e : Sheet) where
   unfoldable pub skipped : ℕ → Rule ℕ
   skipped end = do
     skip end
-    give 0
+    give noLink
 
   -- how a statement that began at a mark goes on: where it failed its error is logged and its node records are given back
   unfoldable pub recovering : ℕ → State → Out ℕ → Out ℕ

@@ -1,4 +1,4 @@
--- Steps of the rules on expressions that lead back to no expression.
+-- Steps of expressions that read no expression themselves: parameters, a table's keys, the names of a `for`, a case's patterns, what stands behind `is`, `?` and `#`, `break` and `continue`.
 use Prim.Native.Nat.{ℕ}
 use mathlib.Core.List.{List}
 use mathlib.Core.Bool.{Bool, true, false}
@@ -17,39 +17,57 @@ use Rattle.cursor.specs.declared.Span.{Span}
 use Rattle.cursor.specs.declared.Ranged.{Ranged}
 use Rattle.cursor.specs.declared.Ranged.the-variants as ranged
 use Rattle.cursor.specs.Node as node
+use Rattle.cursor.specs.Layout.{UNEXPECTED}
 use Rattle.cursor.specs.Sheet.{Sheet, kindAt, rangeAt}
 use Rattle.cursor.specs.Rule.{Rule, _>>=_, _>>_, give, ifSo, Next, more, stop, Turn, iterate}
 use Rattle.cursor.specs.Tokens.{bump}
 use Rattle.cursor.specs.Checks.{check, eat, expect, unexpected}
-use Rattle.cursor.specs.Records.{append, add, noKids}
+use Rattle.cursor.specs.Records.{noLink, append, add, noKids}
 use Rattle.types.specs.declared.items.Items.{Items}
 use Rattle.types.specs.Lits.{lit, ident}
-use Rattle.types.specs.Items.{close, isEnded}
+use Rattle.types.specs.Items.{close, over, isEnded}
 use Rattle.types.specs.Types.{params, closureParams}
 use Rattle.parts.specs.declared.values.Expr.{Expr}
 use Rattle.parts.specs.declared.values.Expr.the-variants as exprs
 use Rattle.parts.specs.declared.steps.Checked.{Checked}
 use Rattle.parts.specs.declared.steps.Checked.the-variants as checked
 use Rattle.parts.specs.Forms as forms
+use Rattle.parts.specs.Members as members
+use Rattle.parts.specs.Members.{namedAt, metaAt}
 use Rattle.parts.specs.Values.{linkOf}
+use Rattle.parts.specs.Records.{memberRecord}
 use Rattle.parts.specs.When.{when}
 
 -- an error that lists no expected kinds
 abbrev pub alone : ℕ → Span → Fault
-alone k span = record { class = 0; found = k; span = span; listed = 0 }
+alone k span = record { class = UNEXPECTED; found = k; span = span; listed = 0 }
 
--- an operator as a record keeps it: the token kind that it is written with, and 0 for none
+-- an operator as a record keeps it: the token kind that it is written with
+abbrev pub noOperator : ℕ
+noOperator = 0
+
 abbrev pub kept : Operator → ℕ
 kept (operators.Binary op) = opKind op
-kept operators.Nothing = 0
+kept operators.Nothing = noOperator
 
 -- the operator of a compound assignment, by the kind of its sign
 abbrev pub operatorOf : ℕ → ℕ
 operatorOf sign = kept (compoundOf sign)
 
--- how a list of each item rule ends: 0 arguments, 1 elements, 2 properties
+-- the item rules of expressions' lists, by the names and numbers that the code tells them by: the arguments of a call, the elements of a list, the properties of
+-- a table
+abbrev pub Arguments : ℕ
+Arguments = 0
+
+abbrev pub Elements : ℕ
+Elements = 1
+
+abbrev pub Properties : ℕ
+Properties = 2
+
+-- how a list of each ends
 unfoldable pub itemsEnd : ℕ → ℕ
-itemsEnd k = elim (eqb k 0) as (λ _. ℕ) [ true ↦ kind.CloseParen | false ↦ elim (eqb k 1) as (λ _. ℕ) [ true ↦ kind.CloseBracket | false ↦ kind.CloseBrace ] ]
+itemsEnd rule = elim (eqb rule Arguments) as (λ _. ℕ) [ true ↦ kind.CloseParen | false ↦ elim (eqb rule Elements) as (λ _. ℕ) [ true ↦ kind.CloseBracket | false ↦ kind.CloseBrace ] ]
 
 -- the type that a token names after `is`: null by its kind, the others by the bytes of their word
 abbrev pub checkedBy : TypeWord → Checked
@@ -75,11 +93,16 @@ module _ (e : Sheet) where
   unfoldable pub noMember : Ranged → Expr → Rule (Next Expr)
   noMember safe x = when (isEnded safe) (unexpected e) (give (stop x))
 
-  -- behind the `#` of a meta member: the bracket's end, where it is one
-  unfoldable pub metaEnd : ℕ → Rule ℕ
-  metaEnd which = when (ltb 0 which) (give 0) (do
+  -- for the code, by the place of the opening token: a member behind its `#`, which has the bracket's end where it is one; and one whose property is a name
+  unfoldable pub metaMember : ℕ → Ranged → Expr → ℕ → Rule (Next Expr)
+  metaMember from safe x which = when (ltb 0 which) (memberRecord from safe (metaAt which) x noLink) (do
     expect e kind.CloseBracket
-    give 0)
+    memberRecord from safe members.BracketMeta x noLink)
+
+  unfoldable pub nameMember : ℕ → Ranged → Expr → ℕ → Rule (Next Expr)
+  nameMember from safe x which = do
+    link ← ident e
+    memberRecord from safe (namedAt which) x link
 
   -- a literal as a table's key, and its colon
   unfoldable pub litKey : Rule ℕ
@@ -100,11 +123,11 @@ module _ (e : Sheet) where
     expect e kind.CloseParen
     parenKeyAt from link
 
-  -- `break` and `continue`
+  -- `break` and `continue`, by the name of the form
   unfoldable pub leaf : ℕ → ℕ → Rule ℕ
   leaf from which = do
     bump e
-    when (eqb which forms.Break) (close node.Break from 0 0 0 0) (close node.Continue from 0 0 0 0)
+    when (eqb which forms.Break) (over node.Break from noLink) (over node.Continue from noLink)
 
   -- parse_items, for names
   unfoldable pub nameTurn : Turn Kids

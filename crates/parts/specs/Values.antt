@@ -1,8 +1,6 @@
 -- What an expression answers, as far as a rule asks.
-use Prim.Native.Nat.{ℕ, zero, suc}
-use mathlib.Core.List.{List, [], _∷_}
+use Prim.Native.Nat.{ℕ}
 use mathlib.Core.Bool.{true, false}
-use lib.ListN.{getD}
 use lib.Dec.{eqb}
 use Rattle.cursor.specs.declared.Kids.{Kids}
 use Rattle.cursor.specs.declared.Ranged.{Ranged}
@@ -38,19 +36,6 @@ memberOf (exprs.Name n) ranged.Nowhere link = exprs.NameMember link
 memberOf (exprs.NameMember n) ranged.Nowhere link = exprs.Other link
 memberOf (exprs.Call n called) ranged.Nowhere link = exprs.Other link
 memberOf (exprs.Other n) ranged.Nowhere link = exprs.Other link
-
--- Rust's MemberKind as docs/LAYOUT.md numbers it, beside the opening token of each: Bracket, Dot, DoubleColon; and without a property, which is what `#`
--- makes of them, BracketMeta, DotMeta, DoubleColonMeta
-abbrev pub memberKinds : List ℕ
-memberKinds = 0 ∷ 1 ∷ 2 ∷ []
-
-abbrev pub metaKinds : List ℕ
-metaKinds = 3 ∷ 4 ∷ 5 ∷ []
-
--- which member it is, by the place of its opening token in the chain of `[`, `.` and `::`, and by the link to its property
-abbrev pub memberKind : ℕ → ℕ → ℕ
-memberKind which zero = getD metaKinds which 0
-memberKind which (suc link) = getD memberKinds which 0
 
 -- a row that begins with a child which is not counted
 abbrev pub rowOf : ℕ → Kids

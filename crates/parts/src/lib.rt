@@ -2,6 +2,7 @@
 pub mod effects;
 pub mod forms;
 pub mod imports;
+pub mod members;
 pub mod records;
 pub mod recovery;
 pub mod steps;

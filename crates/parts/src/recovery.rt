@@ -7,7 +7,7 @@ ghost use Rattle.cursor.specs.Rule.{World, world};
 ghost use Rattle.cursor.specs.Answers.{asMoved, asBuilt, asStop};
 ghost use Rattle.cursor.specs.Attempts.{unbuilt};
 ghost use Rattle.parts.specs.Answers.{asKidsTurned};
-ghost use Rattle.parts.specs.Recovery.{undo, skip, recovering, logHere, lineEnd, afterStmt};
+ghost use Rattle.parts.specs.Recovery.{undone, skip, recovering, logHere, lineEnd, afterStmt};
 use cursor::Built;
 use cursor::Failure;
 use cursor::Kids;
@@ -30,7 +30,7 @@ use types::items::add_some;
 
 // A failed attempt is undone; a refusal ends the whole reading.
 pub fn undone(mark: State, lost: Failure) -> Moved
-    ensures { λ r. ⌜ ((w : World) → asMoved r w ≡ undo mark (asStop lost w)) ⌝ }
+    ensures { λ r. ⌜ ((w : World) → asMoved r w ≡ undone mark (asStop lost w)) ⌝ }
 {
     if 0 < lost.number {
         return Moved::Failed(lost);

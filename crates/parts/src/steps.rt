@@ -1,4 +1,4 @@
-// Steps of the rules on expressions that lead back to no expression.
+// Steps of expressions that read no expression themselves: parameters, a table's keys, the names of a `for`, a case's patterns, what stands behind `is`, `?` and `#`, `break` and `continue`.
 ghost use mathlib.Core.Path.{_≡_};
 ghost use mathlib.Core.List.{List};
 ghost use Prim.Native.Nat.{ℕ};
@@ -9,11 +9,14 @@ ghost use Rattle.cursor.specs.Rule.{World, world};
 ghost use Rattle.cursor.specs.Checks.{eatRange};
 ghost use Rattle.types.specs.Types.{atoms};
 ghost use Rattle.types.specs.Patterns.{patterns};
-ghost use Rattle.parts.specs.Steps.{alone, anyParams, braced, noMember, metaEnd, itemsEnd, operatorOf, litKey, parenKey, leaf, names, loopNames, casePatterns, checkedType, typeCheck};
+ghost use Rattle.parts.specs.Members.{namedAt, metaAt};
+ghost use Rattle.parts.specs.Steps.{alone, anyParams, braced, noMember, metaMember, nameMember, itemsEnd, operatorOf, litKey, parenKey, leaf, names, loopNames, casePatterns, checkedType, typeCheck};
 ghost use Rattle.cursor.specs.Answers.{asTest, asBuilt};
 ghost use Rattle.types.specs.Answers.{asListed};
 ghost use Rattle.parts.specs.Answers.{asRowed, asChained, asAsked};
 use crate::forms;
+use crate::members;
+use crate::records::member_record;
 use crate::values::Chained;
 use crate::values::Expr;
 use crate::values::Rowed;
@@ -51,6 +54,13 @@ use types::lits::lit;
 use types::patterns::pattern;
 use types::types::closure_params;
 use types::types::params;
+
+// The item rules of expressions' lists: the arguments of a call, the elements of a list, the properties of a table.
+pub const ARGUMENTS: u32 = 0;
+
+pub const ELEMENTS: u32 = 1;
+
+pub const PROPERTIES: u32 = 2;
 
 // A `?` that may stand before a member, as a range.
 pub enum Asked {
@@ -126,23 +136,68 @@ pub fn no_member(tokens: &[u32], s: State, x: Expr, safe: Ranged) -> Chained
     Chained::Stop(s, x)
 }
 
-// Behind the `#` of a meta member: the bracket's end, where it is one.
-pub fn meta_end(
+// A member behind its `#`, by the place of its opening token: it has the bracket's end, where it is one.
+pub fn meta_member(
     tokens: &[u32],
+    nodes: &mut [u32],
     live: &mut [u8; 1024],
     limits: Limits,
     s: State,
+    from: u32,
+    x: Expr,
+    safe: Ranged,
     which: usize,
-) -> Built
-    ensures { λ r. ⌜ ((y n e x : List ℕ) → asBuilt r (world n e x (now (live .exit))) ≡ metaEnd (sheet y (now (tokens .entry)) limits) which s (world n e x (now (live .entry)))) ⌝ }
+) -> Chained
+    ensures { λ r. ⌜ ((y e z : List ℕ) → asChained r (world (now (nodes .exit)) e z (now (live .exit))) ≡ metaMember (sheet y (now (tokens .entry)) limits) from safe x which s (world (now (nodes .entry)) e z (now (live .entry)))) ⌝ }
 {
     if 0 < which {
-        return Built::Node(s, 0);
+        return member_record(nodes, s, from, x, safe, meta_at(which), 0);
     }
     let closed = expect(tokens, live, limits, s, kinds::CLOSE_BRACKET);
     match closed {
-        Moved::On(t) => Built::Node(t, 0),
-        Moved::Failed(f) => Built::Failed(f),
+        Moved::On(t) => member_record(nodes, t, from, x, safe, members::BRACKET_META, 0),
+        Moved::Failed(f) => Chained::Failed(f),
+    }
+}
+
+// A member whose property is a name, by the place of its opening token.
+pub fn name_member(
+    tokens: &[u32],
+    nodes: &mut [u32],
+    live: &mut [u8; 1024],
+    limits: Limits,
+    s: State,
+    from: u32,
+    x: Expr,
+    safe: Ranged,
+    which: usize,
+) -> Chained
+    ensures { λ r. ⌜ ((y e z : List ℕ) → asChained r (world (now (nodes .exit)) e z (now (live .exit))) ≡ nameMember (sheet y (now (tokens .entry)) limits) from safe x which s (world (now (nodes .entry)) e z (now (live .entry)))) ⌝ }
+{
+    let read = ident(tokens, nodes, live, limits, s);
+    match read {
+        Built::Node(t, link) => member_record(nodes, t, from, x, safe, named_at(which), link),
+        Built::Failed(f) => Chained::Failed(f),
+    }
+}
+
+fn named_at(which: usize) -> u32
+    ensures { λ r. ⌜ r ≡ namedAt which ⌝ }
+{
+    if which == 1 {
+        members::DOT
+    } else {
+        members::DOUBLE_COLON
+    }
+}
+
+fn meta_at(which: usize) -> u32
+    ensures { λ r. ⌜ r ≡ metaAt which ⌝ }
+{
+    if which == 1 {
+        members::DOT_META
+    } else {
+        members::DOUBLE_COLON_META
     }
 }
 
@@ -150,10 +205,10 @@ pub fn meta_end(
 pub fn items_end(rule: u32) -> u8
     ensures { λ r. ⌜ r ≡ itemsEnd rule ⌝ }
 {
-    if rule == 0 {
+    if rule == ARGUMENTS {
         return kinds::CLOSE_PAREN;
     }
-    if rule == 1 {
+    if rule == ELEMENTS {
         return kinds::CLOSE_BRACKET;
     }
     kinds::CLOSE_BRACE

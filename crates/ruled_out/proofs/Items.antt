@@ -15,7 +15,7 @@ use Rattle.cursor.specs.Sheet.{count, kindAt, rangeAt}
 use Rattle.cursor.specs.Rule.{begin, refusal, Next, more, stop, turns, iterate}
 use Rattle.cursor.specs.Buffer.{put}
 use Rattle.cursor.specs.Tokens.{pastFrom, pastTrivia, bump, eatTrivia, eolTurn, eatEol}
-use Rattle.cursor.specs.Checks.{want, check, eat, unexpected, expect, pickFrom}
+use Rattle.cursor.specs.Checks.{want, check, eat, unexpected, expect, choose}
 use Rattle.cursor.specs.Records.{bit, write, append, add}
 use Rattle.types.specs.declared.lits.Literal.{Literal}
 use Rattle.types.specs.declared.lits.Literal.the-variants as literals
@@ -24,7 +24,7 @@ use Rattle.types.specs.declared.items.Listed.the-variants as listeds
 use Rattle.types.specs.declared.items.Turned.the-variants as turned
 use Rattle.types.specs.Lits.{leaf, literal, litFrom, litAt, lit, identAt, ident}
 use Rattle.types.specs.Items.{start, close, pair, addSome, so, oneItem, afterItem, afterLast, itemTurn, itemsUntilWithLast}
-use Rattle.types.specs.Patterns.{patternEnd, patternItem, patternRow, patternItems, patternBy, pattern, patterns}
+use Rattle.types.specs.Patterns.{patternEnd, patternItem, patternRow, patternItems, pattern, patterns}
 use Rattle.types.proofs.lits.literal_of.Reads as literal-of
 use Rattle.types.proofs.lits.lit.Reads as read-lit
 use Rattle.types.proofs.lits.ident.Reads as read-ident
@@ -151,7 +151,7 @@ span-of-start-alone κs x p = apart (λ s. s .end) p refl
 
 -- `[` and a name, with one level: none is left for the name
 pub pattern-depth-not-lowered : (κs : _) (x : _) → read-pattern.Post κs (blank, (lent (kind.OpenBracket ∷ 0 ∷ 1 ∷ kind.Ident ∷ 1 ∷ 2 ∷ kind.CloseBracket ∷ 2 ∷ 3 ∷ []), (room, (blank, (limits, (begin, (1, tt))))))) (builds.Node (state 3 3 3 2 0) 2) x → ⊥
-unfolding patterns pattern patternBy patternRow patternItems patternItem patternEnd itemsUntilWithLast itemTurn oneItem start eatEol eatTrivia eolTurn iterate turns eat check want bump pickFrom pastTrivia pastFrom isTrivia kindAt count
+unfolding patterns pattern patternRow patternItems patternItem patternEnd itemsUntilWithLast itemTurn oneItem start eatEol eatTrivia eolTurn iterate turns eat check want bump choose pastTrivia pastFrom isTrivia kindAt count
 pattern-depth-not-lowered κs x p = apart ended (p [] []) refl
 
 pub pattern-refused-for-readings : (κs : _) (x : _) → read-pattern.Post κs (blank, (lent name, (room, (blank, (limits, (begin, (0, tt))))))) (builds.Failed (refusal 10)) x → ⊥

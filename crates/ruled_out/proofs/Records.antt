@@ -21,6 +21,7 @@ use Rattle.parts.specs.declared.values.Expr.the-variants as sorts
 use Rattle.parts.specs.declared.values.AssignLeft.{AssignLeft}
 use Rattle.parts.specs.declared.values.AssignLeft.the-variants as assigns
 use Rattle.parts.specs.declared.values.Chained.the-variants as chained
+use Rattle.parts.specs.Members as members
 use Rattle.parts.specs.Records.{couple, rowRecord, listRecord, wrapped, blockRecord, fnRecord, functionRecord, handlerRecord, handlersFlagged, ifRecord, roundRecord, callRecord, memberRecord}
 use Rattle.parts.proofs.values.link_of.Reads as link-of
 use Rattle.parts.proofs.values.to_assign_left.Reads as to-assign-left
@@ -197,11 +198,11 @@ unfolding callRecord addSome close append
 call-record-as-another-expression κs x p = apart (answer turnedTo) (p [] [] []) refl
 
 -- `a?.b`
-pub member-record-safe-and-assigned-to : (κs : _) (x : _) → member-record.Post κs (room, (built 2, (0, (sorts.Name 1, (ranged.At (span 1 2), (1, (2, tt))))))) (chained.More (built 3) (sorts.NameMember 3)) x → ⊥
+pub member-record-safe-and-assigned-to : (κs : _) (x : _) → member-record.Post κs (room, (built 2, (0, (sorts.Name 1, (ranged.At (span 1 2), (members.Dot, (2, tt))))))) (chained.More (built 3) (sorts.NameMember 3)) x → ⊥
 unfolding memberRecord addSome close add append put
 member-record-safe-and-assigned-to κs x p = apart (answer turnedTo) (p [] [] []) refl
 
 -- `a.#`
-pub member-record-meta-as-plain : (κs : _) (x : _) → member-record.Post κs (room, (built 1, (0, (sorts.Name 1, (ranged.Nowhere, (1, (0, tt))))))) (chained.More (built 2) (sorts.NameMember 2)) x → getD (x .0 .now) (cell 1 FLAGS) 0 ≡ 1 → ⊥
+pub member-record-meta-as-plain : (κs : _) (x : _) → member-record.Post κs (room, (built 1, (0, (sorts.Name 1, (ranged.Nowhere, (members.DotMeta, (0, tt))))))) (chained.More (built 2) (sorts.NameMember 2)) x → getD (x .0 .now) (cell 1 FLAGS) 0 ≡ members.Dot → ⊥
 unfolding memberRecord addSome close add append write put
 member-record-meta-as-plain κs x p h = unlike (word (cell 1 FLAGS)) (p [] [] []) h refl

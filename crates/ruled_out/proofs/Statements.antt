@@ -2,7 +2,6 @@
 -- from the source. Assumes nothing.
 use mathlib.Core.Path.{_≡_, refl}
 use mathlib.Core.List.{List, [], _∷_}
-use mathlib.Core.Bool.{false}
 use Prim.Native.Nat.{ℕ}
 use lib.ListN.{getD, replicate}
 use Rattle.kinds.specs.Number as kind
@@ -18,7 +17,7 @@ use Rattle.cursor.specs.Sheet.{count, kindAt, rangeAt}
 use Rattle.cursor.specs.Rule.{refusal, world, begin, erred, Next, more, stop, turns, iterate}
 use Rattle.cursor.specs.Buffer.{put}
 use Rattle.cursor.specs.Tokens.{pastFrom, pastTrivia, bump, eatTrivia, eolTurn, eatEol, rewind}
-use Rattle.cursor.specs.Checks.{want, check, eat, unexpected, expect, pickFrom}
+use Rattle.cursor.specs.Checks.{want, check, eat, unexpected, expect, choose}
 use Rattle.cursor.specs.Records.{write, append, add, log}
 use Rattle.cursor.specs.Attempts.{recover}
 use Rattle.types.specs.declared.items.Turned.the-variants as turned
@@ -27,7 +26,7 @@ use Rattle.types.specs.Items.{start, close, addSome, itemTurn, itemsUntilWithLa
 use Rattle.types.specs.Types.{typeEnd, typeItems, params, returns}
 use Rattle.parts.specs.Recovery.{skipTurn, skip, skipped, recovering, lineEnd, afterStmt}
 use Rattle.parts.specs.Effects.{effectRecord, effectStmt}
-use Rattle.parts.specs.Imports.{importEnd, pathTurn, importStmt}
+use Rattle.parts.specs.Imports.{importSimple, importEnd, pathTurn, importStmt}
 use Rattle.parts.proofs.recovery.undone.Reads as undone
 use Rattle.parts.proofs.recovery.recovered.Reads as recovered
 use Rattle.parts.proofs.recovery.after_stmt.Reads as after-stmt
@@ -56,11 +55,11 @@ abbrev recovery : ℕ → ℕ → State
 recovery nodes errors = record { at = 2; prev = 5; reads = 2; nodes = nodes; errors = errors; wanted = 0; live = 1 }
 
 pub recovered-error-not-logged : (κs : _) (x : _) → recovered.Post κs (blank, (lent (replicate 6 0), (blank, (blank, (limits, (begin, (kind.CloseBrace, (builds.Failed (erred further lost), tt)))))))) (builds.Node (recovery 0 0) 0) x → ⊥
-unfolding recovering log skipped skip skipTurn iterate turns pickFrom check want kindAt count
+unfolding recovering log skipped skip skipTurn iterate turns choose check want kindAt count
 recovered-error-not-logged κs x p = apart (λ o. left o .errors) (p [] []) refl
 
 pub recovered-records-kept : (κs : _) (x : _) → recovered.Post κs (blank, (lent (replicate 6 0), (blank, (blank, (limits, (begin, (kind.CloseBrace, (builds.Failed (erred further lost), tt)))))))) (builds.Node (recovery 1 1) 0) x → ⊥
-unfolding recovering log skipped skip skipTurn iterate turns pickFrom check want kindAt count
+unfolding recovering log skipped skip skipTurn iterate turns choose check want kindAt count
 recovered-records-kept κs x p = apart (λ o. left o .nodes) (p [] []) refl
 
 -- whether a turn goes on, and the count of its row
@@ -105,9 +104,9 @@ effect-stmt-own-record-left-out κs x p = apart (answer itself) (p [] []) refl
 pub import-stmt-path-not-counted :
     (κs : _) (x : _) →
     import-stmt.Post κs (lent (kind.Import ∷ 0 ∷ 6 ∷ kind.Ident ∷ 7 ∷ 8 ∷ kind.Eol ∷ 8 ∷ 9 ∷ []), (room, (blank, (limits, (begin, (0, tt)))))) (builds.Node (state 2 8 2 2 1) 2) x → getD (x .1 .0 .now) (cell 1 FLAGS) 0 ≡ 0 → ⊥
-unfolding importStmt pathTurn importEnd close add ident identAt expect iterate turns pickFrom eat check want bump pastTrivia pastFrom isTrivia kindAt rangeAt count put append write
+unfolding importStmt pathTurn importEnd importSimple close add ident identAt expect iterate turns choose eat check want bump pastTrivia pastFrom isTrivia kindAt rangeAt count put append write
 import-stmt-path-not-counted κs x p h = unlike (word (cell 1 FLAGS)) (p [] [] []) h refl
 
 pub import-stmt-without-the-end-of-its-line : (κs : _) (x : _) → import-stmt.Post κs (lent (kind.Import ∷ 0 ∷ 6 ∷ kind.Ident ∷ 7 ∷ 8 ∷ []), (room, (blank, (limits, (begin, (0, tt)))))) (builds.Node (state 2 8 2 2 3) 2) x → ⊥
-unfolding importStmt pathTurn importEnd unexpected add ident identAt expect iterate turns pickFrom eat check want bump pastTrivia pastFrom isTrivia kindAt rangeAt count append
+unfolding importStmt pathTurn importEnd unexpected add ident identAt expect iterate turns choose eat check want bump pastTrivia pastFrom isTrivia kindAt rangeAt count append
 import-stmt-without-the-end-of-its-line κs x p = apart ended (p [] [] []) refl

@@ -14,30 +14,34 @@ use Rattle.cursor.specs.declared.Ranged.{Ranged}
 use Rattle.cursor.specs.declared.Ranged.the-variants as ranged
 use Rattle.cursor.specs.declared.Test.the-variants as tests
 use Rattle.cursor.specs.declared.Built.the-variants as builds
-use Rattle.cursor.specs.Layout.{KIND, END, FIRST, ONE}
+use Rattle.cursor.specs.Layout.{KIND, END, FIRST, NEXT, ONE, FLAGS, cell}
 use Rattle.cursor.specs.Node as node
 use Rattle.cursor.specs.Sheet.{count, kindAt, rangeAt}
 use Rattle.cursor.specs.Rule.{refusal, world, begin, erred, turns, iterate}
 use Rattle.cursor.specs.Buffer.{put}
 use Rattle.cursor.specs.Tokens.{pastFrom, pastTrivia, bump}
-use Rattle.cursor.specs.Checks.{want, check, eat, unexpected, expect, eatRange, pickFrom}
+use Rattle.cursor.specs.Checks.{want, check, eat, unexpected, expect, eatRange, choose}
 use Rattle.cursor.specs.Records.{bit, write, append, add}
 use Rattle.types.specs.declared.items.Listed.the-variants as listeds
 use Rattle.types.specs.Lits.{literal, litFrom, litAt, lit, identAt, ident}
-use Rattle.types.specs.Items.{start, close, so}
+use Rattle.types.specs.Items.{start, close, addSome, so}
 use Rattle.types.specs.Types.{params, closureParams}
-use Rattle.types.specs.Patterns.{patternBy, pattern, patterns}
+use Rattle.types.specs.Patterns.{pattern, patterns}
 use Rattle.parts.specs.declared.values.Expr.the-variants as sorts
 use Rattle.parts.specs.declared.values.Chained.the-variants as chained
 use Rattle.parts.specs.declared.values.Rowed.the-variants as rowed
 use Rattle.parts.specs.declared.steps.Asked.the-variants as asked
-use Rattle.parts.specs.Steps.{itemsEnd, checkedType, anyParams, braced, noMember, metaEnd, litKey, parenKeyAt, parenKey, leaf, nameTurn, names, loopNames, patternTurn, casePatterns, typeChecked, typeCheckAt, typeCheck}
+use Rattle.parts.specs.Members as members
+use Rattle.parts.specs.Members.{namedAt, metaAt}
+use Rattle.parts.specs.Records.{memberRecord}
+use Rattle.parts.specs.Steps.{itemsEnd, checkedType, anyParams, braced, noMember, metaMember, nameMember, litKey, parenKeyAt, parenKey, leaf, nameTurn, names, loopNames, patternTurn, casePatterns, typeChecked, typeCheckAt, typeCheck}
 use Rattle.parts.proofs.steps.alone.Reads as fault-alone
 use Rattle.parts.proofs.steps.any_params.Reads as any-params
 use Rattle.parts.proofs.steps.braced.Reads as is-braced
 use Rattle.parts.proofs.steps.question.Reads as question
 use Rattle.parts.proofs.steps.no_member.Reads as no-member
-use Rattle.parts.proofs.steps.meta_end.Reads as meta-end
+use Rattle.parts.proofs.steps.meta_member.Reads as meta-member
+use Rattle.parts.proofs.steps.name_member.Reads as name-member
 use Rattle.parts.proofs.steps.items_end.Reads as items-end
 use Rattle.parts.proofs.steps.operator_of.Reads as operator-of
 use Rattle.parts.proofs.steps.lit_key.Reads as lit-key
@@ -118,13 +122,32 @@ pub no-member-always-an-error : (κs : _) (x : _) → no-member.Post κs (blank,
 unfolding noMember
 no-member-always-an-error κs x p = apart ended (p [] limits (world [] [] [] [])) refl
 
-pub meta-end-without-its-bracket : (κs : _) (x : _) → meta-end.Post κs (lent (token kind.Ident), (blank, (limits, (begin, (0, tt))))) (builds.Node begin 0) x → ⊥
-unfolding metaEnd expect unexpected eat check want kindAt count
-meta-end-without-its-bracket κs x p = apart ended (p [] [] [] []) refl
+-- the end of the bracket, behind `[#`
+pub meta-member-without-its-bracket :
+    (κs : _) (x : _) →
+    meta-member.Post κs (lent (token kind.Ident), (room, (blank, (limits, (state 0 0 0 1 0, (0, (sorts.Name 1, (ranged.Nowhere, (0, tt))))))))) (chained.More (state 0 0 0 2 0) (sorts.NameMember 2)) x → ⊥
+unfolding metaMember expect unexpected eat check want kindAt count
+meta-member-without-its-bracket κs x p = apart ended (p [] [] []) refl
 
-pub meta-end-with-a-property : (κs : _) (x : _) → meta-end.Post κs (blank, (blank, (limits, (begin, (1, tt))))) (builds.Node begin 1) x → ⊥
-unfolding metaEnd
-meta-end-with-a-property κs x p = apart (answer itself) (p [] [] [] []) refl
+-- `a.#` with the kind of `a.b`
+pub meta-member-as-plain :
+    (κs : _) (x : _) →
+    meta-member.Post κs (blank, (room, (blank, (limits, (state 0 0 0 1 0, (0, (sorts.Name 1, (ranged.Nowhere, (1, tt))))))))) (chained.More (state 0 0 0 2 0) (sorts.NameMember 2)) x → getD (x .1 .0 .now) (cell 1 FLAGS) 0 ≡ members.Dot → ⊥
+unfolding metaMember metaAt memberRecord addSome close add put append write
+meta-member-as-plain κs x p h = unlike (word (cell 1 FLAGS)) (p [] [] []) h refl
+
+-- `b`, behind `a.`
+pub name-member-dot-as-double-colon :
+    (κs : _) (x : _) →
+    name-member.Post κs (lent (token kind.Ident), (room, (blank, (limits, (state 0 0 0 1 0, (0, (sorts.Name 1, (ranged.Nowhere, (1, tt))))))))) (chained.More (state 1 1 1 3 0) (sorts.NameMember 3)) x → getD (x .1 .0 .now) (cell 2 FLAGS) 0 ≡ members.DoubleColon → ⊥
+unfolding nameMember namedAt memberRecord ident identAt expect eat check bump kindAt rangeAt count addSome close add put append write
+name-member-dot-as-double-colon κs x p h = unlike (word (cell 2 FLAGS)) (p [] [] []) h refl
+
+pub name-member-property-left-out :
+    (κs : _) (x : _) →
+    name-member.Post κs (lent (token kind.Ident), (room, (blank, (limits, (state 0 0 0 1 0, (0, (sorts.Name 1, (ranged.Nowhere, (1, tt))))))))) (chained.More (state 1 1 1 3 0) (sorts.NameMember 3)) x → getD (x .1 .0 .now) (cell 0 NEXT) 0 ≡ 0 → ⊥
+unfolding nameMember namedAt memberRecord ident identAt expect eat check bump kindAt rangeAt count addSome close add put append write
+name-member-property-left-out κs x p h = unlike (word (cell 0 NEXT)) (p [] [] []) h refl
 
 -- keys
 
@@ -168,7 +191,7 @@ unfolding casePatterns patternTurn iterate turns patterns
 case-patterns-refused-for-readings κs x p = apart ended (p [] []) refl
 
 pub case-patterns-first-not-counted : (κs : _) (x : _) → case-patterns.Post κs (blank, (lent (token kind.Ident), (room, (blank, (limits, (begin, (1, tt))))))) (rowed.Row (state 1 1 1 1 1) (row 1 1 0)) x → ⊥
-unfolding casePatterns patternTurn iterate turns patterns pattern patternBy start pickFrom ident identAt expect eat check want bump pastTrivia pastFrom kindAt rangeAt count append add
+unfolding casePatterns patternTurn iterate turns patterns pattern start choose ident identAt expect eat check want bump pastTrivia pastFrom kindAt rangeAt count append add
 case-patterns-first-not-counted κs x p = apart (answer (λ k. k .count)) (p [] []) refl
 
 pub type-check-null-as-the-second-type : (κs : _) (x : _) → type-check.Post κs (blank, (lent (token kind.Null), (room, (limits, (begin, (0, (sorts.Name 3, tt))))))) (chained.More (state 1 1 1 1 0) (sorts.Other 1)) x → getD (x .1 .1 .0 .now) ONE 0 ≡ 1 → ⊥

@@ -17,12 +17,12 @@ use Rattle.cursor.specs.Sheet.{count, kindAt, rangeAt}
 use Rattle.cursor.specs.Rule.{begin, refusal, turns, iterate}
 use Rattle.cursor.specs.Buffer.{put}
 use Rattle.cursor.specs.Tokens.{pastFrom, pastTrivia, bump, eatTrivia, eolTurn, eatEol}
-use Rattle.cursor.specs.Checks.{want, check, eat, unexpected, expect, pickFrom}
+use Rattle.cursor.specs.Checks.{want, check, eat, unexpected, expect, choose}
 use Rattle.cursor.specs.Records.{write, append, add}
 use Rattle.types.specs.declared.items.Listed.the-variants as listeds
 use Rattle.types.specs.Lits.{litAt, lit, identAt, ident}
 use Rattle.types.specs.Items.{start, close, so, oneItem, afterItem, itemTurn, itemsUntilWithLast}
-use Rattle.types.specs.Types.{typeLastKind, typeEnd, unionTurn, union, type, returns, named, typedIdent, tableTyPair, typeItem, typeItems, typeParen, typeTable, typeBy, typeAtom, atoms, params, closureParams}
+use Rattle.types.specs.Types.{typeLastKind, typeEnd, unionTurn, union, type, returns, named, typedIdent, tableTyPair, typeItem, typeItems, typeParen, typeTable, typeAtom, atoms, params, closureParams}
 use Rattle.types.proofs.types.ty.Reads as ty
 use Rattle.types.proofs.types.returns.Reads as read-returns
 use Rattle.types.proofs.types.typed_ident.Reads as typed-ident
@@ -55,14 +55,14 @@ ty-refused-for-readings κs x p = apart ended (p [] []) refl
 
 -- one type as a union
 pub ty-wraps-a-single-part : (κs : _) (x : _) → ty.Post κs (begun name 1 tt) (builds.Node (state 1 1 1 2 1) 2) x → ⊥
-unfolding type start atoms typeAtom typeBy ident identAt expect eat check want bump pickFrom pastTrivia pastFrom kindAt rangeAt count append
+unfolding type start atoms typeAtom ident identAt expect eat check want bump choose pastTrivia pastFrom kindAt rangeAt count append
 ty-wraps-a-single-part κs x p = apart (answer itself) (p [] []) refl
 
 -- `a | b`
 pub ty-union-over-the-last-part :
     (κs : _) (x : _) →
     ty.Post κs (begun (kind.Ident ∷ 0 ∷ 1 ∷ kind.VBar ∷ 1 ∷ 2 ∷ kind.Ident ∷ 2 ∷ 3 ∷ []) 1 tt) (builds.Node (state 3 3 3 3 1) 3) x → getD (x .1 .1 .0 .now) (cell 2 FIRST) 0 ≡ 2 → ⊥
-unfolding type union unionTurn start atoms typeAtom typeBy ident identAt expect eat check want bump pickFrom pastTrivia pastFrom isTrivia kindAt rangeAt count put append write iterate turns add close
+unfolding type union unionTurn start atoms typeAtom ident identAt expect eat check want bump choose pastTrivia pastFrom isTrivia kindAt rangeAt count put append write iterate turns add close
 ty-union-over-the-last-part κs x p h = unlike (word (cell 2 FIRST)) (p [] []) h refl
 
 pub returns-a-link-for-none : (κs : _) (x : _) → read-returns.Post κs (begun [] 1 tt) (builds.Node (state 0 0 0 0 1) 1) x → ⊥
@@ -70,7 +70,7 @@ unfolding returns eat check want kindAt count
 returns-a-link-for-none κs x p = apart (answer itself) (p [] []) refl
 
 pub returns-nothing-after-an-arrow : (κs : _) (x : _) → read-returns.Post κs (begun (kind.Arrow ∷ 0 ∷ 2 ∷ []) 1 tt) (builds.Node (state 1 2 1 0 0) 0) x → ⊥
-unfolding returns type start atoms typeAtom typeBy lit litAt unexpected eat check want bump pickFrom pastTrivia pastFrom kindAt rangeAt count
+unfolding returns type start atoms typeAtom lit litAt unexpected eat check want bump choose pastTrivia pastFrom kindAt rangeAt count
 returns-nothing-after-an-arrow κs x p = apart ended (p [] []) refl
 
 pub typed-ident-name-left-out : (κs : _) (x : _) → typed-ident.Post κs (begun name 1 (false, tt)) (builds.Node (state 1 1 1 1 1) 0) x → ⊥
@@ -87,23 +87,23 @@ unfolding typeItems itemsUntilWithLast itemTurn oneItem typeItem tableTyPair typ
 type-items-end-at-another-kind κs x p = apart ended (p [] []) refl
 
 pub type-items-one-item-short : (κs : _) (x : _) → type-items.Post κs (begun name-shut 1 (3, (row 0 0 0, tt))) (listeds.Row (state 2 2 2 1 0) (so (row 0 0 0))) x → ⊥
-unfolding typeItems itemsUntilWithLast itemTurn oneItem afterItem typeItem type atoms typeAtom typeBy typeEnd typeLastKind start ident identAt expect eatEol eatTrivia eolTurn iterate turns eat check want bump pickFrom pastTrivia pastFrom isTrivia kindAt rangeAt count append add
+unfolding typeItems itemsUntilWithLast itemTurn oneItem afterItem typeItem type atoms typeAtom typeEnd typeLastKind start ident identAt expect eatEol eatTrivia eolTurn iterate turns eat check want bump choose pastTrivia pastFrom isTrivia kindAt rangeAt count append add
 type-items-one-item-short κs x p = apart (answer (λ i. i .kids .count)) (p [] []) refl
 
 -- `(` and a name, with one level: none is left for the name
 pub type-atom-depth-not-lowered : (κs : _) (x : _) → type-atom.Post κs (begun (kind.OpenParen ∷ 0 ∷ 1 ∷ kind.Ident ∷ 1 ∷ 2 ∷ kind.CloseParen ∷ 2 ∷ 3 ∷ []) 1 tt) (builds.Node (state 3 3 3 2 0) 2) x → ⊥
-unfolding atoms typeAtom typeBy typeParen type start check bump pickFrom kindAt count
+unfolding atoms typeAtom typeParen type start check bump choose kindAt count
 type-atom-depth-not-lowered κs x p = apart ended (p [] []) refl
 
 pub type-atom-name-as-a-string : (κs : _) (x : _) → type-atom.Post κs (begun name 1 tt) (builds.Node (state 1 1 1 1 0) 1) x → getD (x .1 .1 .0 .now) KIND 0 ≡ node.Str → ⊥
-unfolding atoms typeAtom typeBy start ident identAt expect eat check want bump pickFrom kindAt rangeAt count put append write
+unfolding atoms typeAtom start ident identAt expect eat check want bump choose kindAt rangeAt count put append write
 type-atom-name-as-a-string κs x p h = unlike (word KIND) (p [] []) h refl
 
 -- `{ }`
 pub type-atom-table-flags-a-return :
     (κs : _) (x : _) →
     type-atom.Post κs (begun (kind.OpenBrace ∷ 0 ∷ 1 ∷ kind.CloseBrace ∷ 1 ∷ 2 ∷ []) 1 tt) (builds.Node (state 2 2 2 1 0) 1) x → getD (x .1 .1 .0 .now) FLAGS 0 ≡ 2 ^ 31 → ⊥
-unfolding atoms typeAtom typeBy typeTable typeItems itemsUntilWithLast itemTurn typeEnd start eatEol eatTrivia eolTurn iterate turns eat check want bump pickFrom pastTrivia pastFrom isTrivia kindAt count put append write close
+unfolding atoms typeAtom typeTable typeItems itemsUntilWithLast itemTurn typeEnd start eatEol eatTrivia eolTurn iterate turns eat check want bump choose pastTrivia pastFrom isTrivia kindAt count put append write close
 type-atom-table-flags-a-return κs x p h = unlike (word FLAGS) (p [] []) h refl
 
 pub params-between-bars : (κs : _) (x : _) → read-params.Post κs (begun bars 1 (row 0 0 0, tt)) (listeds.Row (state 2 2 2 0 0) (so (row 0 0 0))) x → ⊥

@@ -1,5 +1,5 @@
 -- Each way through the rules on atoms, as the code goes through them.
-use mathlib.Core.Path.{_≡_, _∙_}
+use mathlib.Core.Path.{_≡_}
 use mathlib.Core.Bool.{Bool, true, false}
 use Prim.Native.Nat.{ℕ, _<_, _≤_}
 use borrow.Author.Tests.{eq-eqb, ne-eqb, lt-ltb, le-ltb}
@@ -23,11 +23,13 @@ use Rattle.parts.specs.Values.{atomExpr, rowOf}
 use Rattle.rules.specs.Inner.{Inner, expr}
 use Rattle.parts.specs.Records.{rowRecord, listRecord, fnRecord, ifRecord, roundRecord}
 use Rattle.parts.specs.Steps.{leaf, loopNames, casePatterns}
-use Rattle.rules.specs.Blocks.{block, andBlock}
+use Rattle.rules.specs.Blocks.{block, exprAndBlock}
 use Rattle.rules.specs.Functions.{function}
 use Rattle.rules.specs.Tables.{itemsOf, brace}
 use Rattle.rules.specs.Primary.{postfixTurn, primaryOf}
-use Rattle.rules.specs.Atoms.{atomChain, group, doFunction, anonFunction, anon, alternate, ifElse, matchCase, caseTurn, cases, loops, form, atom, primary}
+use Rattle.rules.specs.Atoms.{alternate, ifExpr, matchCase, caseTurn, matchExpr, atom, primary}
+use Rattle.rules.specs.Placed.{group, doFunction, anonFunction, anon, loops, form}
+use Rattle.rules.proofs.Placed.{atomChain, atom-placed}
 
 module _ (r : Inner) where
   module _ (from which : ℕ) (s : State) (w : World) where
@@ -100,45 +102,45 @@ module _ (r : Inner) where
         loops-bare q = rw p (rw (ne-eqb _ _ t) (rw q))
 
         module _ {names : Kids} {s2 : State} {w2 : World} (q : loopNames (r .sheet) which s1 w1 ≡ done s2 w2 names) where
-          pub loops-failed : {x : Stop} → andBlock r names s2 w2 ≡ failed x → loops r from which s w ≡ failed x
+          pub loops-failed : {x : Stop} → exprAndBlock r names s2 w2 ≡ failed x → loops r from which s w ≡ failed x
           unfolding loops
           loops-failed a = rw p (rw (ne-eqb _ _ t) (rw q (rw a)))
 
-          pub loops-on : {kids : Kids} {s3 : State} {w3 : World} → andBlock r names s2 w2 ≡ done s3 w3 kids → loops r from which s w ≡ roundRecord from which (names .count) kids s3 w3
+          pub loops-on : {kids : Kids} {s3 : State} {w3 : World} → exprAndBlock r names s2 w2 ≡ done s3 w3 kids → loops r from which s w ≡ roundRecord from which (names .count) kids s3 w3
           unfolding loops
           loops-on a = rw p (rw (ne-eqb _ _ t) (rw q (rw a)))
 
   -- `if`, and what stands behind its `else`
   module _ (from : ℕ) (s : State) (w : World) where
-    pub if-spent : {x : Stop} → bump (r .sheet) s w ≡ failed x → ifElse r from s w ≡ failed x
-    unfolding ifElse
+    pub if-spent : {x : Stop} → bump (r .sheet) s w ≡ failed x → ifExpr r from s w ≡ failed x
+    unfolding ifExpr
     if-spent p = rw p
 
     module _ {s1 : State} {w1 : World} (p : bump (r .sheet) s w ≡ done s1 w1 tt) where
-      pub if-failed : {x : Stop} → andBlock r noKids s1 w1 ≡ failed x → ifElse r from s w ≡ failed x
-      unfolding ifElse
+      pub if-failed : {x : Stop} → exprAndBlock r noKids s1 w1 ≡ failed x → ifExpr r from s w ≡ failed x
+      unfolding ifExpr
       if-failed q = rw p (rw q)
 
-      module _ {kids : Kids} {s2 : State} {w2 : World} (q : andBlock r noKids s1 w1 ≡ done s2 w2 kids) where
-        pub if-full : {x : Stop} → eat (r .sheet) kind.Else s2 w2 ≡ failed x → ifElse r from s w ≡ failed x
-        unfolding ifElse
+      module _ {kids : Kids} {s2 : State} {w2 : World} (q : exprAndBlock r noKids s1 w1 ≡ done s2 w2 kids) where
+        pub if-full : {x : Stop} → eat (r .sheet) kind.Else s2 w2 ≡ failed x → ifExpr r from s w ≡ failed x
+        unfolding ifExpr
         if-full a = rw p (rw q (rw a))
 
-        pub if-bare : {s3 : State} {w3 : World} → eat (r .sheet) kind.Else s2 w2 ≡ done s3 w3 false → ifElse r from s w ≡ ifRecord from kids 0 s3 w3
-        unfolding ifElse
+        pub if-bare : {s3 : State} {w3 : World} → eat (r .sheet) kind.Else s2 w2 ≡ done s3 w3 false → ifExpr r from s w ≡ ifRecord from kids 0 s3 w3
+        unfolding ifExpr
         if-bare a = rw p (rw q (rw a))
 
         module _ {s3 : State} {w3 : World} (a : eat (r .sheet) kind.Else s2 w2 ≡ done s3 w3 true) where
-          pub if-lost : {x : Stop} → check (r .sheet) kind.If s3 w3 ≡ failed x → ifElse r from s w ≡ failed x
-          unfolding ifElse alternate
+          pub if-lost : {x : Stop} → check (r .sheet) kind.If s3 w3 ≡ failed x → ifExpr r from s w ≡ failed x
+          unfolding ifExpr alternate
           if-lost b = rw p (rw q (rw a (rw b)))
 
-          pub if-again : {o : Out ℕ} {s4 : State} {w4 : World} → check (r .sheet) kind.If s3 w3 ≡ done s4 w4 true → o ≡ expr r true s4 w4 → ifElse r from s w ≡ bind o (λ s5 w5 other. ifRecord from kids other s5 w5)
-          unfolding ifElse alternate
+          pub if-again : {o : Out ℕ} {s4 : State} {w4 : World} → check (r .sheet) kind.If s3 w3 ≡ done s4 w4 true → o ≡ expr r true s4 w4 → ifExpr r from s w ≡ bind o (λ s5 w5 other. ifRecord from kids other s5 w5)
+          unfolding ifExpr alternate
           if-again b d = rw d (rw p (rw q (rw a (rw b))))
 
-          pub if-else : {o : Out ℕ} {s4 : State} {w4 : World} → check (r .sheet) kind.If s3 w3 ≡ done s4 w4 false → o ≡ block r node.ExprBlock s4 w4 → ifElse r from s w ≡ bind o (λ s5 w5 other. ifRecord from kids other s5 w5)
-          unfolding ifElse alternate
+          pub if-else : {o : Out ℕ} {s4 : State} {w4 : World} → check (r .sheet) kind.If s3 w3 ≡ done s4 w4 false → o ≡ block r node.ExprBlock s4 w4 → ifExpr r from s w ≡ bind o (λ s5 w5 other. ifRecord from kids other s5 w5)
+          unfolding ifExpr alternate
           if-else b d = rw d (rw p (rw q (rw a (rw b))))
 
   -- a case
@@ -192,27 +194,27 @@ module _ (r : Inner) where
 
   -- `match` with its cases
   module _ (from : ℕ) (s : State) (w : World) where
-    pub cases-spent : {x : Stop} → bump (r .sheet) s w ≡ failed x → cases r from s w ≡ failed x
-    unfolding cases
+    pub cases-spent : {x : Stop} → bump (r .sheet) s w ≡ failed x → matchExpr r from s w ≡ failed x
+    unfolding matchExpr
     cases-spent p = rw p
 
     module _ {s1 : State} {w1 : World} (p : bump (r .sheet) s w ≡ done s1 w1 tt) where
-      pub cases-failed : {x : Stop} → expr r false s1 w1 ≡ failed x → cases r from s w ≡ failed x
-      unfolding cases
+      pub cases-failed : {x : Stop} → expr r false s1 w1 ≡ failed x → matchExpr r from s w ≡ failed x
+      unfolding matchExpr
       cases-failed q = rw p (rw q)
 
       module _ {link : ℕ} {s2 : State} {w2 : World} (q : expr r false s1 w1 ≡ done s2 w2 link) where
-        pub cases-open : {x : Stop} → expect (r .sheet) kind.OpenBrace s2 w2 ≡ failed x → cases r from s w ≡ failed x
-        unfolding cases
+        pub cases-open : {x : Stop} → expect (r .sheet) kind.OpenBrace s2 w2 ≡ failed x → matchExpr r from s w ≡ failed x
+        unfolding matchExpr
         cases-open a = rw p (rw q (rw a))
 
         module _ {s3 : State} {w3 : World} (a : expect (r .sheet) kind.OpenBrace s2 w2 ≡ done s3 w3 tt) where
-          pub cases-lost : {x : Stop} → iterate (r .sheet) (caseTurn r) (rowOf link) s3 w3 ≡ failed x → cases r from s w ≡ failed x
-          unfolding cases
+          pub cases-lost : {x : Stop} → iterate (r .sheet) (caseTurn r) (rowOf link) s3 w3 ≡ failed x → matchExpr r from s w ≡ failed x
+          unfolding matchExpr
           cases-lost b = rw p (rw q (rw a (rw b)))
 
-          pub cases-on : {flags : ℕ} {row : Kids} {s4 : State} {w4 : World} → iterate (r .sheet) (caseTurn r) (rowOf link) s3 w3 ≡ done s4 w4 row → flags ≡ flagged (row .count) 0 false false → cases r from s w ≡ close node.Match from 0 0 flags (row .first) s4 w4
-          unfolding cases
+          pub cases-on : {flags : ℕ} {row : Kids} {s4 : State} {w4 : World} → iterate (r .sheet) (caseTurn r) (rowOf link) s3 w3 ≡ done s4 w4 row → flags ≡ flagged (row .count) 0 false false → matchExpr r from s w ≡ close node.Match from 0 0 flags (row .first) s4 w4
+          unfolding matchExpr
           cases-on b h = rw p (rw q (rw a (rw (b, h))))
 
   -- the forms of an atom, by their place in the chain
@@ -233,11 +235,11 @@ module _ (r : Inner) where
     unfolding form
     form-list p = rw p
 
-    pub form-if : which ≡ forms.If → form r from which s w ≡ ifElse r from s w
+    pub form-if : which ≡ forms.If → form r from which s w ≡ ifExpr r from s w
     unfolding form
     form-if p = rw p
 
-    pub form-cases : which ≡ forms.Match → form r from which s w ≡ cases r from s w
+    pub form-cases : which ≡ forms.Match → form r from which s w ≡ matchExpr r from s w
     unfolding form
     form-cases p = rw p
 
@@ -266,18 +268,15 @@ module _ (r : Inner) where
 
   module _ (s : State) (w : World) {from : ℕ} (f : from ≡ startOf (rangeAt (r .sheet .tokens) (s .at))) where
     -- parse_expr_atom
-    pub atom-full : {x : Stop} → pick (r .sheet) atomChain s w ≡ failed x → atom r s w ≡ failed x
-    unfolding atom
-    atom-full p = rw (starts (r .sheet) s w f) (rw p)
+    pub atom-full : {x : Stop} → pick (r .sheet) (atomChain r) s w ≡ failed x → atom r s w ≡ failed x
+    atom-full p = rw (atom-placed r) (rw (starts (r .sheet) s w f) (rw p))
 
-    module _ {which : ℕ} {s1 : State} {w1 : World} (p : pick (r .sheet) atomChain s w ≡ done s1 w1 which) where
+    module _ {which : ℕ} {s1 : State} {w1 : World} (p : pick (r .sheet) (atomChain r) s w ≡ done s1 w1 which) where
       pub atom-failed : {x : Stop} → form r from which s1 w1 ≡ failed x → atom r s w ≡ failed x
-      unfolding atom
-      atom-failed q = rw (starts (r .sheet) s w f) (rw p (rw q))
+      atom-failed q = rw (atom-placed r) (rw (starts (r .sheet) s w f) (rw p (rw q)))
 
       pub atom-on : {link : ℕ} {x : Expr} {s2 : State} {w2 : World} → form r from which s1 w1 ≡ done s2 w2 link → x ≡ atomExpr which link → atom r s w ≡ done s2 w2 x
-      unfolding atom
-      atom-on q h = rw (starts (r .sheet) s w f) (rw p (rw (q, h)))
+      atom-on q h = rw (atom-placed r) (rw (starts (r .sheet) s w f) (rw p (rw (q, h))))
 
     -- parse_expr_primary: an atom, and the calls and members behind it
     module _ (lambda : Bool) where

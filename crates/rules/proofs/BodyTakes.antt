@@ -27,8 +27,9 @@ use Rattle.cursor.proofs.Spends.{Spends, Further, takes, spares, either-spends,
 use Rattle.types.specs.Items.{addSome}
 use Rattle.rules.specs.Inner.{Inner}
 use Rattle.parts.specs.When.{when}
+use Rattle.parts.proofs.Placed.{skip-turn-placed}
 use Rattle.parts.specs.Recovery.{skipTurn, skip, skipped, logHere, lineEnd, afterStmt}
-use Rattle.rules.specs.Body.{stmtOr, bodyTurn}
+use Rattle.rules.specs.Exprs.{stmtOr, exprsTurn}
 use Rattle.rules.specs.Levels.{levels}
 use Rattle.rules.proofs.Stays.{Stays, add-some-stays}
 use Rattle.rules.proofs.StmtStays.{stmt-starts, skip-stays, log-here-stays, after-stmt-stays, knot-stays}
@@ -86,8 +87,8 @@ module _ (e : Sheet) where
   Stopped end s = Among (kindAt (e .tokens) (s .at)) (stops end)
 
   skip-turning : (end : ℕ) → Turning (λ _ _ _. Unit {0}) (λ s _ _. Stopped end s) Any e (skipTurn e end)
-  unfolding skipTurn count
-  skip-turning end s w a _ = then (pick-says (stops end) 0 s w) (λ _ _ _ _. tt) (λ s1 w1 j p. by s1 w1 j (p .0) (p .1))
+  unfolding count
+  skip-turning end s w a _ = rw (skip-turn-placed e end a) (then (pick-says (stops end) 0 s w) (λ _ _ _ _. tt) (λ s1 w1 j p. by s1 w1 j (p .0) (p .1)))
     where
       no-eof : (Among (kindAt (e .tokens) (s .at)) (stops end) → ⊥) → kindAt (e .tokens) (s .at) ≡ kind.Eof → ⊥
       no-eof n q = n (behind (here q))
@@ -181,13 +182,13 @@ module _ {r : Inner} (h : Stays r) where
       by : (s s1 s2 s3 : State) (w3 : World) → s .at ≤ s1 .at → s1 .at ≤ s2 .at → s2 .at ≤ s3 .at → Stopped (r .sheet) end s3 → Ends {A = ℕ} (λ s4 _ _. Behind (r .sheet) end s s4) Any (give 0 s3 w3)
       by s s1 s2 s3 w3 a b c z = well {s = s3} (passed (omega arith) z)
 
-  pub body-spends : (end : ℕ) (kids : Kids) → Spends (r .sheet) Further (bodyTurn r end kids)
-  unfolding bodyTurn
+  pub body-spends : (end : ℕ) (kids : Kids) → Spends (r .sheet) Further (exprsTurn r end kids)
+  unfolding exprsTurn
   body-spends end kids = then-spends (eat-keeps (r .sheet) end) (λ closed. either-spends closed (spares (λ x. x)) (record { ends = λ s w. then (stmt-or-ends end s w) (λ _ _ _ _. tt) (λ s1 w1 link p. by s s1 w1 link p) }))
     where
       by : (s s1 : State) (w1 : World) (link : ℕ) → Behind (r .sheet) end s s1 → Ends (λ s2 _ n. Further n → left (r .sheet) s2 < left (r .sheet) s) Any (afterStmt (r .sheet) end kids link s1 w1)
       by s s1 w1 link (took l) = weaken (after-stmt-stays (r .sheet) end kids link .ends s1 w1 (ground-stands s1)) (λ s2 w2 n p _. let a = p .0 .later .at in omega arith) (λ _ _ _ _. tt)
       by s s1 w1 link (passed l z) = weaken (after-skip (r .sheet) end kids link s1 w1 z) (λ s2 w2 n f o. let a = f o in omega arith) (λ _ _ _ _. tt)
 
-pub body-turn-takes : (e : Sheet) (d end : ℕ) → Takes e (bodyTurn (levels e d) end)
+pub body-turn-takes : (e : Sheet) (d end : ℕ) → Takes e (exprsTurn (levels e d) end)
 body-turn-takes e d end = takes (body-spends (knot-stays e d) end)

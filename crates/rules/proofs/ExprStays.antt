@@ -16,8 +16,9 @@ use Rattle.cursor.specs.Node as node
 use Rattle.cursor.specs.Sheet.{Sheet}
 use Rattle.cursor.specs.Rule.{Rule}
 use Rattle.cursor.specs.Records.{noKids}
+use Rattle.cursor.proofs.Chosen.{Every, all, _&_, each}
 use Rattle.cursor.proofs.Keeps.{Keeps, Plain, ground, gives, ifs, plain, binds, thens, attempts}
-use Rattle.cursor.proofs.Kept.{bump-keeps, check-keeps, eat-keeps, expect-keeps, eat-range-keeps, pick-keeps, eat-eol-keeps, Fresh, nothing, ground-mine}
+use Rattle.cursor.proofs.Kept.{bump-keeps, check-keeps, eat-keeps, expect-keeps, eat-range-keeps, chooses, eat-eol-keeps, Fresh, nothing, ground-mine}
 use Rattle.types.specs.declared.items.Items.{Items}
 use Rattle.types.specs.Items.{oneItem}
 use Rattle.types.proofs.ItemKeeps.{start-keeps, ident-keeps, after-item-keeps}
@@ -26,17 +27,17 @@ use Rattle.parts.specs.declared.values.Expr.{Expr}
 use Rattle.parts.specs.declared.values.Expr.the-variants as exprs
 use Rattle.parts.specs.Values.{linkOf, rowOf, rowWith}
 use Rattle.rules.specs.Inner.{Inner}
-use Rattle.parts.specs.Steps.{alone, itemsEnd}
-use Rattle.rules.specs.Blocks.{block, andBlock}
-use Rattle.rules.specs.Functions.{function, fnStmt}
+use Rattle.parts.specs.Steps.{Elements, alone, itemsEnd}
+use Rattle.rules.specs.Blocks.{block, exprAndBlock}
+use Rattle.rules.specs.Functions.{function, namedFunction}
 use Rattle.parts.specs.Effects.{effectRecord, effectStmt}
 use Rattle.parts.specs.Until.{untilTurn, itemsUntil}
 use Rattle.rules.specs.Tables.{key, property, item, itemsOf, table, braceBlock, tableOrBlock, brace}
-use Rattle.rules.specs.Primary.{memberChain, member, access, call, postfixTurn, primaryOf}
-use Rattle.rules.specs.Atoms.{atomChain, group, doFunction, anonFunction, anon, alternate, ifElse, matchCase, caseTurn, cases, loops, form, atom, primary}
-use Rattle.rules.specs.Precedence.{unaryChain, handler, handlerTurn, triedBy, tried, negated, unary, operated, infixBy, infixTurn, precedence}
-use Rattle.rules.proofs.Stays.{Stays, Starts, Opens, opens, bumps, expects, either-opens, opens-at, opens-first, starts-first, starts-then, picks-start, rounds, fails, add-stays, add-some-stays, close-stays, pair-stays, expr-stays}
-use Rattle.rules.proofs.RecordStays.{couple-stays, row-record-stays, list-record-stays, block-record-stays, fn-record-stays, function-record-stays, handler-record-stays, handlers-flagged-stays, if-record-stays, round-record-stays, call-record-stays, member-record-stays, ident-starts, lit-starts, any-params-starts, braced-stays, no-member-stays, meta-end-stays, lit-key-stays, paren-key-stays, leaf-opens, loop-names-stays, case-patterns-stays, type-check-stays}
+use Rattle.rules.specs.Primary.{memberExpr, bracketMember, dotMember, doubleColonMember, memberCases, access, call, postfixTurn, primaryOf}
+use Rattle.rules.specs.Atoms.{parenExpr, listExpr, returnExpr, fnExpr, closureExpr, doExpr, alternate, ifExpr, matchCase, caseTurn, matchExpr, loopExpr, whileExpr, forExpr, breakExpr, continueExpr, other, atomCases, atom, primary}
+use Rattle.rules.specs.Precedence.{unaryCases, handler, handlerTurn, triedBy, tried, unaryOp, unary, operated, infixBy, infixTurn, precedence}
+use Rattle.rules.proofs.Stays.{Stays, Starts, Opens, opens, bumps, expects, opens-at, opens-first, starts-first, starts-then, chooses-start, rounds, fails, add-stays, add-some-stays, close-stays, pair-stays, expr-stays}
+use Rattle.rules.proofs.RecordStays.{couple-stays, row-record-stays, list-record-stays, block-record-stays, fn-record-stays, function-record-stays, handler-record-stays, handlers-flagged-stays, if-record-stays, call-record-stays, member-record-stays, ident-starts, lit-starts, any-params-starts, braced-stays, no-member-stays, lit-key-stays, paren-key-stays, case-patterns-stays, type-check-stays, names-stays}
 
 -- lists of items
 module _ (e : Sheet) where
@@ -67,19 +68,19 @@ module _ {r : Inner} (h : Stays r) where
   -- blocks and functions
   pub block-starts : (wrap : ℕ) → Starts (r .sheet) (block r wrap)
   unfolding block
-  block-starts wrap = expects kind.OpenBrace refl (binds (start-keeps (r .sheet)) (λ from _. binds (h .body kind.CloseBrace) (λ row _. block-record-stays from wrap from row)))
+  block-starts wrap = expects kind.OpenBrace refl (binds (start-keeps (r .sheet)) (λ from _. binds (h .exprs kind.CloseBrace) (λ row _. block-record-stays from wrap from row)))
 
-  pub and-block-stays : (kids : Kids) → Keeps ground Plain (andBlock r kids)
-  unfolding andBlock
+  pub and-block-stays : (kids : Kids) → Keeps ground Plain (exprAndBlock r kids)
+  unfolding exprAndBlock
   and-block-stays kids = binds (expr-stays h false) (λ link _. binds (block-starts 0 .stays) (λ body _. binds (add-stays kids link) (λ one _. add-stays one body)))
 
   pub function-starts : (from : ℕ) (closure : Bool) → Starts (r .sheet) (function r from closure)
   unfolding function
   function-starts from closure =
-      starts-first (any-params-starts (r .sheet) (h .atom) closure) (λ i. binds (returns-keeps (r .sheet) _ (h .atom)) (λ link _. binds (block-starts 0 .stays) (λ body _. function-record-stays from closure i link body)))
+      starts-first (any-params-starts (r .sheet) (h .typeAtom) closure) (λ i. binds (returns-keeps (r .sheet) _ (h .typeAtom)) (λ link _. binds (block-starts 0 .stays) (λ body _. function-record-stays from closure i link body)))
 
-  pub fn-stmt-starts : (from : ℕ) (glo : Ranged) → Starts (r .sheet) (fnStmt r from glo)
-  unfolding fnStmt
+  pub fn-stmt-starts : (from : ℕ) (glo : Ranged) → Starts (r .sheet) (namedFunction r from glo)
+  unfolding namedFunction
   fn-stmt-starts from glo = expects kind.Fn refl (binds (ident-keeps (r .sheet)) (λ name _. binds (function-starts from false .stays) (λ link _. fn-record-stays from glo name link)))
 
   -- tables
@@ -108,7 +109,7 @@ module _ {r : Inner} (h : Stays r) where
 
   pub brace-block-stays : (from inside : ℕ) → Keeps ground Plain (braceBlock r from inside)
   unfolding braceBlock
-  brace-block-stays from inside = binds (h .body kind.CloseBrace) (λ row _. block-record-stays inside node.ExprBlock from row)
+  brace-block-stays from inside = binds (h .exprs kind.CloseBrace) (λ row _. block-record-stays inside node.ExprBlock from row)
 
   pub table-or-block-stays : (from : ℕ) → Keeps ground Plain (tableOrBlock r from)
   unfolding tableOrBlock
@@ -119,19 +120,28 @@ module _ {r : Inner} (h : Stays r) where
   brace-opens from = bumps (thens (eat-eol-keeps (r .sheet)) (binds (eat-keeps (r .sheet) kind.CloseBrace) (λ closed _. ifs closed (close-stays node.Table from 0 0 0 0) (table-or-block-stays from))))
 
   -- calls and members
-  pub member-opens : (which : ℕ) → Opens (r .sheet) (member r which)
-  unfolding member
-  member-opens which =
-      bumps (binds (eat-keeps (r .sheet) kind.Pound) (λ meta _. ifs meta
-      (meta-end-stays (r .sheet) which)
-      (ifs (ltb 0 which) (plain (ident-keeps (r .sheet))) (binds (expr-stays h true) (λ link _. thens (expect-keeps (r .sheet) kind.CloseBracket) (gives tt))))))
+  member-opens : (from : ℕ) (safe : Ranged) (x : Expr) (named meta : ℕ) {property : Rule ℕ} {closing : Rule Unit} → Keeps ground Plain property → Keeps ground Plain closing → Opens (r .sheet) (memberExpr r from safe x named meta property closing)
+  member-opens from safe x named meta p c =
+      bumps (binds (eat-keeps (r .sheet) kind.Pound) (λ pound _. ifs pound (thens c (member-record-stays from safe meta x 0)) (binds p (λ link _. thens c (member-record-stays from safe named x link)))))
+
+  bracket-opens : (from : ℕ) (safe : Ranged) (x : Expr) → Opens (r .sheet) (bracketMember r from safe x)
+  unfolding bracketMember
+  bracket-opens from safe x = member-opens from safe x _ _ (expr-stays h true) (expect-keeps (r .sheet) kind.CloseBracket)
+
+  dot-opens : (from : ℕ) (safe : Ranged) (x : Expr) → Opens (r .sheet) (dotMember r from safe x)
+  unfolding dotMember
+  dot-opens from safe x = member-opens from safe x _ _ (plain (ident-keeps (r .sheet))) (gives tt)
+
+  double-colon-opens : (from : ℕ) (safe : Ranged) (x : Expr) → Opens (r .sheet) (doubleColonMember r from safe x)
+  unfolding doubleColonMember
+  double-colon-opens from safe x = member-opens from safe x _ _ (plain (ident-keeps (r .sheet))) (gives tt)
+
+  pub members-open : (from : ℕ) (safe : Ranged) (x : Expr) → Every (Opens (r .sheet)) (memberCases r from safe x)
+  members-open from safe x = bracket-opens from safe x & dot-opens from safe x & double-colon-opens from safe x & all
 
   pub access-stays : (from : ℕ) (x : Expr) → Keeps ground Plain (access r from x)
   unfolding access
-  access-stays from x =
-      binds (eat-range-keeps (r .sheet) kind.Question) (λ safe _. binds (pick-keeps (r .sheet) memberChain 0) (λ which _. ifs (ltb 2 which)
-      (no-member-stays (r .sheet) safe x)
-      (binds (member-opens which .stays) (λ link _. member-record-stays from safe which x link))))
+  access-stays from x = binds (eat-range-keeps (r .sheet) kind.Question) (λ safe _. chooses (r .sheet) (memberCases r from safe x) (each (λ _ o. o .stays) _ (members-open from safe x)) (no-member-stays (r .sheet) safe x))
 
   pub call-stays : (from : ℕ) (lambda : Bool) (x : Expr) → Keeps ground Plain (call r from lambda x)
   unfolding call
@@ -152,32 +162,37 @@ module _ {r : Inner} (h : Stays r) where
   primary-of-starts starts lambda = starts-then (start-keeps (r .sheet)) (λ from. starts-first starts (λ x. rounds (postfix-turn-stays from lambda) (r .sheet) x))
 
   -- atoms
-  pub group-opens : (from which : ℕ) → Opens (r .sheet) (group r from which)
-  unfolding group
-  group-opens from which =
-      bumps (ifs (eqb which 3)
-      (binds (items-of-stays 1 noKids) (λ i _. list-record-stays node.List from i))
-      (binds (expr-stays h true) (λ link _. ifs (eqb which 14) (close-stays node.Return from 0 0 0 link) (thens (expect-keeps (r .sheet) kind.CloseParen) (close-stays node.Paren from 0 0 0 link)))))
+  paren-opens : (from : ℕ) → Opens (r .sheet) (parenExpr r from)
+  unfolding parenExpr
+  paren-opens from = bumps (binds (expr-stays h true) (λ link _. thens (expect-keeps (r .sheet) kind.CloseParen) (close-stays node.Paren from 0 0 0 link)))
 
-  pub do-function-stays : (from : ℕ) → Keeps ground Plain (doFunction r from)
-  unfolding doFunction
-  do-function-stays from = binds (block-starts 0 .stays) (λ body _. close-stays node.Do from 0 0 0 body)
+  list-opens : (from : ℕ) → Opens (r .sheet) (listExpr r from)
+  unfolding listExpr
+  list-opens from = bumps (binds (items-of-stays Elements noKids) (λ i _. list-record-stays node.List from i))
 
-  pub anon-function-opens : (from which : ℕ) → Opens (r .sheet) (anonFunction r from which)
-  unfolding anonFunction
-  anon-function-opens from which = either-opens (eqb which 5) (opens (function-starts from true)) (bumps (ifs (eqb which 4) (function-starts from false .stays) (do-function-stays from)))
+  return-opens : (from : ℕ) → Opens (r .sheet) (returnExpr r from)
+  unfolding returnExpr
+  return-opens from = bumps (binds (expr-stays h true) (λ link _. close-stays node.Return from 0 0 0 link))
 
-  pub anon-opens : (from which : ℕ) → Opens (r .sheet) (anon r from which)
-  unfolding anon
-  anon-opens from which = opens-first (anon-function-opens from which) (λ f. fn-record-stays from ranged.Nowhere 0 f)
+  fn-opens : (from : ℕ) → Opens (r .sheet) (fnExpr r from)
+  unfolding fnExpr
+  fn-opens from = bumps (binds (function-starts from false .stays) (λ f _. fn-record-stays from ranged.Nowhere 0 f))
+
+  closure-opens : (from : ℕ) → Opens (r .sheet) (closureExpr r from)
+  unfolding closureExpr
+  closure-opens from = opens-first (opens (function-starts from true)) (λ f. fn-record-stays from ranged.Nowhere 0 f)
+
+  do-opens : (from : ℕ) → Opens (r .sheet) (doExpr r from)
+  unfolding doExpr
+  do-opens from = bumps (binds (block-starts 0 .stays) (λ body _. binds (close-stays node.Do from 0 0 0 body) (λ f _. fn-record-stays from ranged.Nowhere 0 f)))
 
   pub alternate-stays : Keeps ground Plain (alternate r)
   unfolding alternate
   alternate-stays = binds (check-keeps (r .sheet) kind.If) (λ again _. ifs again (expr-stays h true) (block-starts node.ExprBlock .stays))
 
-  pub if-else-opens : (from : ℕ) → Opens (r .sheet) (ifElse r from)
-  unfolding ifElse
-  if-else-opens from =
+  pub if-opens : (from : ℕ) → Opens (r .sheet) (ifExpr r from)
+  unfolding ifExpr
+  if-opens from =
       bumps (binds (and-block-stays noKids) (λ kids _. binds (eat-keeps (r .sheet) kind.Else) (λ other _. ifs other (binds alternate-stays (λ a _. if-record-stays from kids a)) (if-record-stays from kids 0))))
 
   pub match-case-starts : Starts (r .sheet) (matchCase r)
@@ -190,35 +205,53 @@ module _ {r : Inner} (h : Stays r) where
   case-turn-stays kids =
       binds (eat-keeps (r .sheet) kind.CloseBrace) (λ closed _. ifs closed (gives tt) (thens (eat-eol-keeps (r .sheet)) (binds (match-case-starts .stays) (λ c _. thens (eat-eol-keeps (r .sheet)) (binds (add-stays kids c) (λ longer _. gives tt))))))
 
-  pub cases-opens : (from : ℕ) → Opens (r .sheet) (cases r from)
-  unfolding cases
-  cases-opens from = bumps (binds (expr-stays h false) (λ link _. thens (expect-keeps (r .sheet) kind.OpenBrace) (binds (rounds case-turn-stays (r .sheet) (rowOf link)) (λ row _. close-stays node.Match from 0 0 _ (row .first)))))
+  pub match-opens : (from : ℕ) → Opens (r .sheet) (matchExpr r from)
+  unfolding matchExpr
+  match-opens from = bumps (binds (expr-stays h false) (λ link _. thens (expect-keeps (r .sheet) kind.OpenBrace) (binds (rounds case-turn-stays (r .sheet) (rowOf link)) (λ row _. close-stays node.Match from 0 0 _ (row .first)))))
 
-  pub loops-opens : (from which : ℕ) → Opens (r .sheet) (loops r from which)
-  unfolding loops
-  loops-opens from which =
-      bumps (ifs (eqb which 9)
-      (binds (block-starts 0 .stays) (λ body _. close-stays node.Loop from 0 0 0 body))
-      (binds (loop-names-stays (r .sheet) which) (λ names _. binds (and-block-stays names) (λ kids _. round-record-stays from which (names .count) kids))))
+  loop-opens : (from : ℕ) → Opens (r .sheet) (loopExpr r from)
+  unfolding loopExpr
+  loop-opens from = bumps (binds (block-starts 0 .stays) (λ body _. close-stays node.Loop from 0 0 0 body))
 
-  pub form-opens : (from which : ℕ) → Opens (r .sheet) (form r from which)
-  unfolding form
-  form-opens from which =
-      either-opens (eqb which 0) (group-opens from which)
-      (either-opens (eqb which 1) (opens (ident-starts (r .sheet)))
-      (either-opens (eqb which 2) (brace-opens from)
-      (either-opens (eqb which 3) (group-opens from which)
-      (either-opens (ltb which 7) (anon-opens from which)
-      (either-opens (eqb which 7) (if-else-opens from)
-      (either-opens (eqb which 8) (cases-opens from)
-      (either-opens (ltb which 12) (loops-opens from which)
-      (either-opens (ltb which 14) (leaf-opens (r .sheet) from which)
-      (either-opens (eqb which 14) (group-opens from which) (opens (lit-starts (r .sheet))))))))))))
+  while-opens : (from : ℕ) → Opens (r .sheet) (whileExpr r from)
+  unfolding whileExpr
+  while-opens from = bumps (binds (and-block-stays noKids) (λ kids _. close-stays node.While from 0 0 0 (kids .first)))
 
-  -- past the chain it is a literal
+  for-opens : (from : ℕ) → Opens (r .sheet) (forExpr r from)
+  unfolding forExpr
+  for-opens from = bumps (binds (names-stays (r .sheet)) (λ row _. thens (expect-keeps (r .sheet) kind.In) (binds (and-block-stays row) (λ kids _. close-stays node.For from 0 0 _ (kids .first)))))
+
+  break-opens : (from : ℕ) → Opens (r .sheet) (breakExpr r from)
+  unfolding breakExpr
+  break-opens from = bumps (close-stays node.Break from 0 0 0 0)
+
+  continue-opens : (from : ℕ) → Opens (r .sheet) (continueExpr r from)
+  unfolding continueExpr
+  continue-opens from = bumps (close-stays node.Continue from 0 0 0 0)
+
+  -- an atom as an expression
+  as-other : {rule : Rule ℕ} → Opens (r .sheet) rule → Opens (r .sheet) (other r rule)
+  as-other x = opens-first x (λ link. gives tt)
+
   pub atom-starts : Starts (r .sheet) (atom r)
-  unfolding atom form
-  atom-starts = starts-then (start-keeps (r .sheet)) (λ from. picks-start atomChain refl (λ i. opens-first (form-opens from i) (λ link. gives tt)) (starts-first (lit-starts (r .sheet)) (λ link. gives tt)))
+  unfolding atom
+  atom-starts = starts-then (start-keeps (r .sheet)) (λ from. chooses-start (atomCases r from) refl
+      (as-other (paren-opens from)
+      & opens-first (opens (ident-starts (r .sheet))) (λ link. gives tt)
+      & as-other (brace-opens from)
+      & as-other (list-opens from)
+      & as-other (fn-opens from)
+      & as-other (closure-opens from)
+      & as-other (do-opens from)
+      & as-other (if-opens from)
+      & as-other (match-opens from)
+      & as-other (loop-opens from)
+      & as-other (while-opens from)
+      & as-other (for-opens from)
+      & as-other (break-opens from)
+      & as-other (continue-opens from)
+      & as-other (return-opens from)
+      & all) (starts-first (lit-starts (r .sheet)) (λ link. gives tt)))
 
   pub primary-starts : (lambda : Bool) → Starts (r .sheet) (primary r lambda)
   unfolding primary
@@ -228,7 +261,7 @@ module _ {r : Inner} (h : Stays r) where
   pub handler-starts : Starts (r .sheet) (handler r)
   unfolding handler
   handler-starts =
-      starts-then (start-keeps (r .sheet)) (λ from. expects kind.With refl (binds (ident-keeps (r .sheet)) (λ name _. binds (params-keep (r .sheet) _ (h .atom) (rowOf name) (ground-mine _)) (λ i _. binds (block-starts 0 .stays) (λ body _. handler-record-stays from i body)))))
+      starts-then (start-keeps (r .sheet)) (λ from. expects kind.With refl (binds (ident-keeps (r .sheet)) (λ name _. binds (params-keep (r .sheet) _ (h .typeAtom) (rowOf name) (ground-mine _)) (λ i _. binds (block-starts 0 .stays) (λ body _. handler-record-stays from i body)))))
 
   pub handler-turn-starts : (kids : Kids) → Starts (r .sheet) (handlerTurn r kids)
   unfolding handlerTurn
@@ -245,14 +278,14 @@ module _ {r : Inner} (h : Stays r) where
   unfolding tried
   tried-opens lambda = opens-at (λ s. bumps (binds (primary-starts lambda .stays) (λ x _. tried-by-stays _ x)))
 
-  pub negated-opens : (from : ℕ) (lambda : Bool) → Opens (r .sheet) (negated r from lambda)
-  unfolding negated
-  negated-opens from lambda = opens-at (λ s. bumps (binds (primary-starts lambda .stays) (λ x _. binds (close-stays node.Unary from _ 0 0 (linkOf x)) (λ link _. gives tt))))
+  pub unary-op-opens : (from : ℕ) (lambda : Bool) → Opens (r .sheet) (unaryOp r from lambda)
+  unfolding unaryOp
+  unary-op-opens from lambda = opens-at (λ s. bumps (binds (primary-starts lambda .stays) (λ x _. binds (close-stays node.Unary from _ 0 0 (linkOf x)) (λ link _. gives tt))))
 
   pub unary-starts : (lambda : Bool) → Starts (r .sheet) (unary r lambda)
   unfolding unary
   unary-starts lambda =
-      starts-then (start-keeps (r .sheet)) (λ from. picks-start unaryChain refl (λ i. either-opens (eqb i 2) (tried-opens lambda) (either-opens (ltb 2 i) (opens (primary-starts lambda)) (negated-opens from lambda))) (primary-starts lambda))
+      starts-then (start-keeps (r .sheet)) (λ from. chooses-start (unaryCases r from lambda) refl (unary-op-opens from lambda & unary-op-opens from lambda & tried-opens lambda & all) (primary-starts lambda))
 
   pub operated-stays : (from : ℕ) (lambda : Bool) (x : Expr) (k level : ℕ) → Keeps ground Plain (operated r from lambda x k level)
   unfolding operated

@@ -1,5 +1,5 @@
 -- Each way through the rules that use up a level, and through a whole sheet.
-use mathlib.Core.Path.{_≡_, refl, _∙_}
+use mathlib.Core.Path.{_≡_, refl}
 use mathlib.Core.Bool.{Bool, true, false}
 use Prim.Native.Nat.{ℕ, zero, suc, _-_, max}
 use native.Mathlib.Numerals.{sub-one}
@@ -20,7 +20,7 @@ use Rattle.rules.specs.Inner.{Inner}
 use Rattle.rules.specs.Precedence.{unary, infixTurn, precedence}
 use Rattle.rules.specs.Statements.{stmt}
 use Rattle.parts.specs.Recovery.{recovering, afterStmt}
-use Rattle.rules.specs.Body.{stmtOr, bodyTurn, body}
+use Rattle.rules.specs.Exprs.{stmtOr, exprsTurn, exprs}
 use Rattle.rules.specs.Levels.{knot, levels, programRecord, program}
 
 module _ (r : Inner) where
@@ -30,26 +30,26 @@ module _ (r : Inner) where
   stmt-or-is end s w p = rw p
 
   module _ (end : ℕ) (kids : Kids) (s : State) (w : World) where
-    pub body-full : {x : Stop} → eat (r .sheet) end s w ≡ failed x → bodyTurn r end kids s w ≡ failed x
-    unfolding bodyTurn
+    pub body-full : {x : Stop} → eat (r .sheet) end s w ≡ failed x → exprsTurn r end kids s w ≡ failed x
+    unfolding exprsTurn
     body-full p = rw p
 
-    pub body-ended : {s1 : State} {w1 : World} → eat (r .sheet) end s w ≡ done s1 w1 true → bodyTurn r end kids s w ≡ done s1 w1 (stop kids)
-    unfolding bodyTurn
+    pub body-ended : {s1 : State} {w1 : World} → eat (r .sheet) end s w ≡ done s1 w1 true → exprsTurn r end kids s w ≡ done s1 w1 (stop kids)
+    unfolding exprsTurn
     body-ended p = rw p
 
     module _ {s1 : State} {w1 : World} (p : eat (r .sheet) end s w ≡ done s1 w1 false) where
-      pub body-failed : {x : Stop} → stmtOr r end s1 w1 ≡ failed x → bodyTurn r end kids s w ≡ failed x
-      unfolding bodyTurn
+      pub body-failed : {x : Stop} → stmtOr r end s1 w1 ≡ failed x → exprsTurn r end kids s w ≡ failed x
+      unfolding exprsTurn
       body-failed q = rw p (rw q)
 
-      pub body-on : {link : ℕ} {s2 : State} {w2 : World} → stmtOr r end s1 w1 ≡ done s2 w2 link → bodyTurn r end kids s w ≡ afterStmt (r .sheet) end kids link s2 w2
-      unfolding bodyTurn
+      pub body-on : {link : ℕ} {s2 : State} {w2 : World} → stmtOr r end s1 w1 ≡ done s2 w2 link → exprsTurn r end kids s w ≡ afterStmt (r .sheet) end kids link s2 w2
+      unfolding exprsTurn
       body-on q = rw p (rw q)
 
 -- no level is left
 module _ (e : Sheet) (d : ℕ) (s : State) (w : World) (p : d ≡ 0) where
-  pub body-none : (end : ℕ) → knot e d .body end s w ≡ failed (refused (refusal 9))
+  pub body-none : (end : ℕ) → knot e d .exprs end s w ≡ failed (refused (refusal 9))
   unfolding knot
   body-none end = rw p
 
@@ -59,13 +59,13 @@ module _ (e : Sheet) (d : ℕ) (s : State) (w : World) (p : d ≡ 0) where
 
 -- with one level less
 module _ (e : Sheet) (end : ℕ) (s : State) (w : World) where
-  pub body-spent : (d : ℕ) {x : Stop} → (d ≡ 0 → ⊥) → eatEol e s w ≡ failed x → knot e d .body end s w ≡ failed x
-  unfolding knot body
+  pub body-spent : (d : ℕ) {x : Stop} → (d ≡ 0 → ⊥) → eatEol e s w ≡ failed x → knot e d .exprs end s w ≡ failed x
+  unfolding knot exprs
   body-spent zero n p = absurd (n refl)
   body-spent (suc d) n p = rw p
 
-  pub body-begin : (d : ℕ) {s1 : State} {w1 : World} → (d ≡ 0 → ⊥) → eatEol e s w ≡ done s1 w1 tt → knot e d .body end s w ≡ iterate e (bodyTurn (levels e (d - 1)) end) noKids s1 w1
-  unfolding knot body
+  pub body-begin : (d : ℕ) {s1 : State} {w1 : World} → (d ≡ 0 → ⊥) → eatEol e s w ≡ done s1 w1 tt → knot e d .exprs end s w ≡ iterate e (exprsTurn (levels e (d - 1)) end) noKids s1 w1
+  unfolding knot exprs
   body-begin zero n p = absurd (n refl)
   body-begin (suc d) n p = rw p (rw sub-one)
 
@@ -82,10 +82,10 @@ module _ (e : Sheet) (min : ℕ) (lambda : Bool) (s : State) (w : World) {from :
 
 -- a whole sheet
 module _ (r : Inner) (s : State) (w : World) {from : ℕ} (f : from ≡ startOf (rangeAt (r .sheet .tokens) (s .at))) where
-  pub program-failed : {x : Stop} → r .body kind.Eof s w ≡ failed x → program r s w ≡ failed x
+  pub program-failed : {x : Stop} → r .exprs kind.Eof s w ≡ failed x → program r s w ≡ failed x
   unfolding program
   program-failed p = rw (starts (r .sheet) s w f) (rw p)
 
-  pub program-on : {end flags : ℕ} {row : Kids} {s1 : State} {w1 : World} → r .body kind.Eof s w ≡ done s1 w1 row → flags ≡ flagged (row .count) 0 false false → end ≡ max from (s1 .prev) → program r s w ≡ append (record { kind = node.Program; start = from; end = end; one = 0; two = 0; flags = flags }) (row .first) s1 w1
+  pub program-on : {end flags : ℕ} {row : Kids} {s1 : State} {w1 : World} → r .exprs kind.Eof s w ≡ done s1 w1 row → flags ≡ flagged (row .count) 0 false false → end ≡ max from (s1 .prev) → program r s w ≡ append (record { kind = node.Program; start = from; end = end; one = 0; two = 0; flags = flags }) (row .first) s1 w1
   unfolding program programRecord
   program-on p q h = rw (starts (r .sheet) s w f) (rw p (rw (q, h)))

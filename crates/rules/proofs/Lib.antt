@@ -2,7 +2,7 @@ pub mod AtomPaths
 pub mod BodyTakes
 pub mod ExprStays
 pub mod LevelPaths
-pub mod Places
+pub mod Placed
 pub mod PrecedencePaths
 pub mod PrimaryPaths
 pub mod RecordStays

@@ -40,7 +40,8 @@ use Rattle.parts.specs.Records.{couple, handlerRecord, handlersFlagged}
 use Rattle.parts.specs.Steps.{alone, typeCheck}
 use Rattle.rules.specs.Blocks.{block}
 use Rattle.rules.specs.Atoms.{primary}
-use Rattle.rules.specs.Precedence.{unaryChain, handler, handlerTurn, triedBy, tried, negated, unary, operated, infixBy, infixTurn}
+use Rattle.rules.specs.Precedence.{handler, handlerTurn, triedBy, tried, unaryOp, unary, operated, infixBy, infixTurn}
+use Rattle.rules.proofs.Placed.{unaryChain, unary-placed}
 
 module _ (r : Inner) where
   -- a handler of a `try`
@@ -55,11 +56,11 @@ module _ (r : Inner) where
       handler-bare q = rw (starts (r .sheet) s w f) (rw p (rw q))
 
       module _ {name : ℕ} {s2 : State} {w2 : World} (q : ident (r .sheet) s1 w1 ≡ done s2 w2 name) where
-        pub handler-failed : {x : Stop} → params (r .sheet) (r .atom) (rowOf name) s2 w2 ≡ failed x → handler r s w ≡ failed x
+        pub handler-failed : {x : Stop} → params (r .sheet) (r .typeAtom) (rowOf name) s2 w2 ≡ failed x → handler r s w ≡ failed x
         unfolding handler
         handler-failed a = rw (starts (r .sheet) s w f) (rw p (rw q (rw a)))
 
-        module _ {i : Items} {s3 : State} {w3 : World} (a : params (r .sheet) (r .atom) (rowOf name) s2 w2 ≡ done s3 w3 i) where
+        module _ {i : Items} {s3 : State} {w3 : World} (a : params (r .sheet) (r .typeAtom) (rowOf name) s2 w2 ≡ done s3 w3 i) where
           pub handler-lost : {x : Stop} → block r 0 s3 w3 ≡ failed x → handler r s w ≡ failed x
           unfolding handler
           handler-lost b = rw (starts (r .sheet) s w f) (rw p (rw q (rw a (rw b))))
@@ -124,38 +125,35 @@ module _ (r : Inner) where
 
   -- parse_expr_unary
   module _ (lambda : Bool) (s : State) (w : World) {from : ℕ} (f : from ≡ startOf (rangeAt (r .sheet .tokens) (s .at))) where
-    pub unary-full : {x : Stop} → pick (r .sheet) unaryChain s w ≡ failed x → unary r lambda s w ≡ failed x
-    unfolding unary
-    unary-full p = rw (starts (r .sheet) s w f) (rw p)
+    pub unary-full : {x : Stop} → pick (r .sheet) (unaryChain r) s w ≡ failed x → unary r lambda s w ≡ failed x
+    unary-full p = rw (unary-placed r lambda) (rw (starts (r .sheet) s w f) (rw p))
 
-    module _ {which : ℕ} {s1 : State} {w1 : World} (p : pick (r .sheet) unaryChain s w ≡ done s1 w1 which) where
+    module _ {which : ℕ} {s1 : State} {w1 : World} (p : pick (r .sheet) (unaryChain r) s w ≡ done s1 w1 which) where
       pub unary-try : which ≡ 2 → unary r lambda s w ≡ tried r lambda s1 w1
-      unfolding unary
-      unary-try t = rw (starts (r .sheet) s w f) (rw p (rw (eq-eqb _ _ t)))
+      unary-try t = rw (unary-placed r lambda) (rw (starts (r .sheet) s w f) (rw p (rw (eq-eqb _ _ t))))
 
       module _ (t : which ≡ 2 → ⊥) where
         pub unary-plain : 2 < which → unary r lambda s w ≡ primary r lambda s1 w1
-        unfolding unary
-        unary-plain u = rw (starts (r .sheet) s w f) (rw p (rw (ne-eqb _ _ t) (rw (lt-ltb _ _ u))))
+        unary-plain u = rw (unary-placed r lambda) (rw (starts (r .sheet) s w f) (rw p (rw (ne-eqb _ _ t) (rw (lt-ltb _ _ u)))))
 
         module _ (u : which ≤ 2) where
           pub unary-spent : {x : Stop} → bump (r .sheet) s1 w1 ≡ failed x → unary r lambda s w ≡ failed x
-          unfolding unary negated
-          unary-spent q = rw (starts (r .sheet) s w f) (rw p (rw (ne-eqb _ _ t) (rw (le-ltb _ _ u) (rw q))))
+          unfolding unaryOp
+          unary-spent q = rw (unary-placed r lambda) (rw (starts (r .sheet) s w f) (rw p (rw (ne-eqb _ _ t) (rw (le-ltb _ _ u) (rw q)))))
 
           module _ {s2 : State} {w2 : World} (q : bump (r .sheet) s1 w1 ≡ done s2 w2 tt) where
             pub unary-failed : {x : Stop} → primary r lambda s2 w2 ≡ failed x → unary r lambda s w ≡ failed x
-            unfolding unary negated
-            unary-failed a = rw (starts (r .sheet) s w f) (rw p (rw (ne-eqb _ _ t) (rw (le-ltb _ _ u) (rw q (rw a)))))
+            unfolding unaryOp
+            unary-failed a = rw (unary-placed r lambda) (rw (starts (r .sheet) s w f) (rw p (rw (ne-eqb _ _ t) (rw (le-ltb _ _ u) (rw q (rw a))))))
 
             module _ {x : Expr} {s3 : State} {w3 : World} (a : primary r lambda s2 w2 ≡ done s3 w3 x) {k operand : ℕ} (c : k ≡ kindAt (r .sheet .tokens) (s1 .at)) (l : operand ≡ linkOf x) where
               pub unary-lost : {y : Stop} → close node.Unary from k 0 0 operand s3 w3 ≡ failed y → unary r lambda s w ≡ failed y
-              unfolding unary negated
-              unary-lost b = rw (starts (r .sheet) s w f) (rw p (rw (ne-eqb _ _ t) (rw (le-ltb _ _ u) (rw q (rw a (rw (← c, ← l) (rw b)))))))
+              unfolding unaryOp
+              unary-lost b = rw (unary-placed r lambda) (rw (starts (r .sheet) s w f) (rw p (rw (ne-eqb _ _ t) (rw (le-ltb _ _ u) (rw q (rw a (rw (← c, ← l) (rw b))))))))
 
               pub unary-on : {link : ℕ} {s4 : State} {w4 : World} → close node.Unary from k 0 0 operand s3 w3 ≡ done s4 w4 link → unary r lambda s w ≡ done s4 w4 (exprs.Other link)
-              unfolding unary negated
-              unary-on b = rw (starts (r .sheet) s w f) (rw p (rw (ne-eqb _ _ t) (rw (le-ltb _ _ u) (rw q (rw a (rw (← c, ← l) (rw b)))))))
+              unfolding unaryOp
+              unary-on b = rw (unary-placed r lambda) (rw (starts (r .sheet) s w f) (rw p (rw (ne-eqb _ _ t) (rw (le-ltb _ _ u) (rw q (rw a (rw (← c, ← l) (rw b))))))))
 
   -- one operator more
   module _ (from min : ℕ) (lambda : Bool) (x : Expr) (s : State) (w : World) {k : ℕ} (c : k ≡ kindAt (r .sheet .tokens) (s .at)) where

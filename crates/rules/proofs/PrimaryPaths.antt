@@ -1,5 +1,5 @@
 -- Each way through the rules on calls and members, as the code goes through them.
-use mathlib.Core.Path.{_≡_, _∙_}
+use mathlib.Core.Path.{_≡_}
 use mathlib.Core.Bool.{Bool, true, false}
 use Prim.Native.Nat.{ℕ, _<_, _≤_}
 use borrow.Author.Tests.{lt-ltb, le-ltb}
@@ -11,47 +11,49 @@ use Rattle.cursor.specs.Rule.{World, Stop, done, failed}
 use Rattle.cursor.specs.Tokens.{bump}
 use Rattle.cursor.specs.Checks.{eat, expect, eatRange, pick}
 use Rattle.types.specs.declared.items.Items.{Items}
-use Rattle.types.specs.Lits.{ident}
 use Rattle.parts.specs.declared.values.Expr.{Expr}
+use Rattle.parts.specs.Members as members
 use Rattle.parts.specs.Values.{linkOf, rowOf}
 use Rattle.rules.specs.Inner.{Inner, expr}
 use Rattle.parts.specs.Records.{callRecord, memberRecord}
-use Rattle.parts.specs.Steps.{braced, noMember, metaEnd}
+use Rattle.parts.specs.Steps.{braced, noMember, metaMember, nameMember}
 use Rattle.rules.specs.Blocks.{block}
 use Rattle.rules.specs.Tables.{itemsOf}
-use Rattle.rules.specs.Primary.{memberChain, member, access, call, postfixTurn}
+use Rattle.rules.specs.Primary.{access, call, postfixTurn}
+use Rattle.rules.specs.Placed.{member}
+use Rattle.rules.proofs.Placed.{memberChain, access-placed}
 
--- what stands behind a member's opening token
-module _ (r : Inner) (which : ℕ) (s : State) (w : World) where
-  pub member-spent : {x : Stop} → bump (r .sheet) s w ≡ failed x → member r which s w ≡ failed x
+-- a member from its opening token on
+module _ (r : Inner) (from : ℕ) (safe : Ranged) (x : Expr) (which : ℕ) (s : State) (w : World) where
+  pub member-spent : {y : Stop} → bump (r .sheet) s w ≡ failed y → member r from safe x which s w ≡ failed y
   unfolding member
   member-spent p = rw p
 
   module _ {s1 : State} {w1 : World} (p : bump (r .sheet) s w ≡ done s1 w1 tt) where
-    pub member-full : {x : Stop} → eat (r .sheet) kind.Pound s1 w1 ≡ failed x → member r which s w ≡ failed x
+    pub member-full : {y : Stop} → eat (r .sheet) kind.Pound s1 w1 ≡ failed y → member r from safe x which s w ≡ failed y
     unfolding member
     member-full q = rw p (rw q)
 
-    pub member-meta : {s2 : State} {w2 : World} → eat (r .sheet) kind.Pound s1 w1 ≡ done s2 w2 true → member r which s w ≡ metaEnd (r .sheet) which s2 w2
+    pub member-meta : {s2 : State} {w2 : World} → eat (r .sheet) kind.Pound s1 w1 ≡ done s2 w2 true → member r from safe x which s w ≡ metaMember (r .sheet) from safe x which s2 w2
     unfolding member
     member-meta q = rw p (rw q)
 
     module _ {s2 : State} {w2 : World} (q : eat (r .sheet) kind.Pound s1 w1 ≡ done s2 w2 false) where
-      pub member-name : 0 < which → member r which s w ≡ ident (r .sheet) s2 w2
+      pub member-name : 0 < which → member r from safe x which s w ≡ nameMember (r .sheet) from safe x which s2 w2
       unfolding member
       member-name t = rw p (rw q (rw (lt-ltb _ _ t)))
 
       module _ (t : which ≤ 0) where
-        pub member-failed : {x : Stop} → expr r true s2 w2 ≡ failed x → member r which s w ≡ failed x
+        pub member-failed : {y : Stop} → expr r true s2 w2 ≡ failed y → member r from safe x which s w ≡ failed y
         unfolding member
         member-failed a = rw p (rw q (rw (le-ltb _ _ t) (rw a)))
 
         module _ {link : ℕ} {s3 : State} {w3 : World} (a : expr r true s2 w2 ≡ done s3 w3 link) where
-          pub member-open : {x : Stop} → expect (r .sheet) kind.CloseBracket s3 w3 ≡ failed x → member r which s w ≡ failed x
+          pub member-open : {y : Stop} → expect (r .sheet) kind.CloseBracket s3 w3 ≡ failed y → member r from safe x which s w ≡ failed y
           unfolding member
           member-open b = rw p (rw q (rw (le-ltb _ _ t) (rw a (rw b))))
 
-          pub member-on : {s4 : State} {w4 : World} → expect (r .sheet) kind.CloseBracket s3 w3 ≡ done s4 w4 tt → member r which s w ≡ done s4 w4 link
+          pub member-on : {s4 : State} {w4 : World} → expect (r .sheet) kind.CloseBracket s3 w3 ≡ done s4 w4 tt → member r from safe x which s w ≡ memberRecord from safe members.Bracket x link s4 w4
           unfolding member
           member-on b = rw p (rw q (rw (le-ltb _ _ t) (rw a (rw b))))
 
@@ -59,27 +61,18 @@ module _ (r : Inner) (from : ℕ) where
   -- a member, where one stands here
   module _ (x : Expr) (s : State) (w : World) where
     pub access-failed : {y : Stop} → eatRange (r .sheet) kind.Question s w ≡ failed y → access r from x s w ≡ failed y
-    unfolding access
-    access-failed p = rw p
+    access-failed p = rw (access-placed r from x) (rw p)
 
     module _ {safe : Ranged} {s1 : State} {w1 : World} (p : eatRange (r .sheet) kind.Question s w ≡ done s1 w1 safe) where
-      pub access-full : {y : Stop} → pick (r .sheet) memberChain s1 w1 ≡ failed y → access r from x s w ≡ failed y
-      unfolding access
-      access-full q = rw p (rw q)
+      pub access-full : {y : Stop} → pick (r .sheet) (memberChain r) s1 w1 ≡ failed y → access r from x s w ≡ failed y
+      access-full q = rw (access-placed r from x) (rw p (rw q))
 
-      module _ {which : ℕ} {s2 : State} {w2 : World} (q : pick (r .sheet) memberChain s1 w1 ≡ done s2 w2 which) where
+      module _ {which : ℕ} {s2 : State} {w2 : World} (q : pick (r .sheet) (memberChain r) s1 w1 ≡ done s2 w2 which) where
         pub access-none : 2 < which → access r from x s w ≡ noMember (r .sheet) safe x s2 w2
-        unfolding access
-        access-none t = rw p (rw q (rw (lt-ltb _ _ t)))
+        access-none t = rw (access-placed r from x) (rw p (rw q (rw (lt-ltb _ _ t))))
 
-        module _ (t : which ≤ 2) where
-          pub access-lost : {y : Stop} → member r which s2 w2 ≡ failed y → access r from x s w ≡ failed y
-          unfolding access
-          access-lost a = rw p (rw q (rw (le-ltb _ _ t) (rw a)))
-
-          pub access-on : {link : ℕ} {s3 : State} {w3 : World} → member r which s2 w2 ≡ done s3 w3 link → access r from x s w ≡ memberRecord from safe which x link s3 w3
-          unfolding access
-          access-on a = rw p (rw q (rw (le-ltb _ _ t) (rw a)))
+        pub access-on : which ≤ 2 → access r from x s w ≡ member r from safe x which s2 w2
+        access-on t = rw (access-placed r from x) (rw p (rw q (rw (le-ltb _ _ t))))
 
   module _ (lambda : Bool) (x : Expr) (s : State) (w : World) where
     -- a call from behind its opening parenthesis on

@@ -4,7 +4,6 @@ use mathlib.Core.Bool.{Bool}
 use Prim.Native.Nat.{ℕ, zero, suc, _<_}
 use native.Mathlib.Omega.{arith}
 use native.Mathlib.Decide.{decLt}
-use lib.Dec.{ltb, eqb}
 use Rattle.kinds.specs.Number as kind
 use Rattle.cursor.specs.declared.State.{State}
 use Rattle.cursor.specs.declared.Kids.{Kids}
@@ -35,9 +34,9 @@ use Rattle.parts.specs.declared.values.Expr.{Expr}
 use Rattle.parts.specs.declared.steps.Checked.{Checked}
 use Rattle.parts.specs.declared.steps.Checked.the-variants as checked
 use Rattle.parts.specs.Values.{linkOf}
-use Rattle.parts.specs.Records.{couple, rowRecord, listRecord, wrapped, blockRecord, fnRecord, functionKind, functionRecord, handlerRecord, handlersFlagged, ifRecord, roundRecord, callRecord, memberRecord}
-use Rattle.parts.specs.Steps.{checkedType, anyParams, braced, noMember, metaEnd, litKey, parenKeyAt, parenKey, leaf, nameTurn, names, loopNames, patternTurn, casePatterns, typeChecked, typeCheckAt, typeCheck}
-use Rattle.rules.proofs.Stays.{Starts, Opens, bumps, expects, either-starts, starts-first, rounds, add-stays, add-some-stays, close-stays, reflag-stays}
+use Rattle.parts.specs.Records.{couple, rowRecord, listRecord, wrapped, blockRecord, fnRecord, functionKind, functionRecord, handlerRecord, handlersFlagged, ifRecord, callRecord, memberRecord}
+use Rattle.parts.specs.Steps.{checkedType, anyParams, braced, noMember, litKey, parenKeyAt, parenKey, nameTurn, names, patternTurn, casePatterns, typeChecked, typeCheckAt, typeCheck}
+use Rattle.rules.proofs.Stays.{Starts, expects, either-starts, starts-first, rounds, add-stays, add-some-stays, close-stays, reflag-stays}
 
 -- records
 pub couple-stays : (k from word a b : ℕ) → Keeps ground Plain (couple k from word a b)
@@ -81,17 +80,13 @@ pub if-record-stays : (from : ℕ) (kids : Kids) (link : ℕ) → Keeps ground P
 unfolding ifRecord
 if-record-stays from kids link = binds (add-some-stays kids link) (λ all _. close-stays node.If from 0 0 _ (all .first))
 
-pub round-record-stays : (from which names : ℕ) (kids : Kids) → Keeps ground Plain (roundRecord from which names kids)
-unfolding roundRecord
-round-record-stays from which names kids = ifs (eqb which 10) (close-stays node.While from 0 0 0 (kids .first)) (close-stays node.For from 0 0 _ (kids .first))
-
 pub call-record-stays : (from : ℕ) (kids : Kids) (lambda : ℕ) → Keeps ground Plain (callRecord from kids lambda)
 unfolding callRecord
 call-record-stays from kids lambda = binds (add-some-stays kids lambda) (λ all _. binds (close-stays node.Call from 0 0 _ (all .first)) (λ link _. gives tt))
 
-pub member-record-stays : (from : ℕ) (safe : Ranged) (which : ℕ) (x : Expr) (link : ℕ) → Keeps ground Plain (memberRecord from safe which x link)
+pub member-record-stays : (from : ℕ) (safe : Ranged) (member : ℕ) (x : Expr) (link : ℕ) → Keeps ground Plain (memberRecord from safe member x link)
 unfolding memberRecord
-member-record-stays from safe which x link = binds (add-stays noKids (linkOf x)) (λ one _. binds (add-some-stays one link) (λ all _. binds (close-stays node.Member from _ _ _ (all .first)) (λ m _. gives tt)))
+member-record-stays from safe member x link = binds (add-stays noKids (linkOf x)) (λ one _. binds (add-some-stays one link) (λ all _. binds (close-stays node.Member from _ _ _ (all .first)) (λ m _. gives tt)))
 
 -- steps
 module _ (e : Sheet) where
@@ -149,10 +144,6 @@ module _ (e : Sheet) where
   unfolding noMember
   no-member-stays safe x = ifs (isEnded safe) (unexpected-keeps e) (gives tt)
 
-  pub meta-end-stays : (which : ℕ) → Keeps ground Plain (metaEnd e which)
-  unfolding metaEnd
-  meta-end-stays which = ifs (ltb 0 which) (gives tt) (thens (expect-keeps e kind.CloseBracket) (gives tt))
-
   pub lit-key-stays : Keeps ground Plain (litKey e)
   unfolding litKey
   lit-key-stays = binds (lit-keeps e) (λ link _. thens (expect-keeps e kind.Colon) (gives tt))
@@ -165,10 +156,6 @@ module _ (e : Sheet) where
   unfolding parenKey
   paren-key-stays from link = thens (expect-keeps e kind.CloseParen) (paren-key-at-stays from link)
 
-  pub leaf-opens : (from which : ℕ) → Opens e (leaf e from which)
-  unfolding leaf
-  leaf-opens from which = bumps (ifs (eqb which 12) (close-stays node.Break from 0 0 0 0) (close-stays node.Continue from 0 0 0 0))
-
   pub name-turn-starts : (kids : Kids) → Starts e (nameTurn e kids)
   unfolding nameTurn
   name-turn-starts kids = starts-first ident-starts (λ link. binds (add-stays kids link) (λ longer _. binds (eat-keeps e kind.Comma) (λ comma _. ifs comma (gives tt) (gives tt))))
@@ -176,10 +163,6 @@ module _ (e : Sheet) where
   pub names-stays : Keeps ground Plain (names e)
   unfolding names
   names-stays = rounds (λ kids. name-turn-starts kids .stays) e noKids
-
-  pub loop-names-stays : (which : ℕ) → Keeps ground Plain (loopNames e which)
-  unfolding loopNames
-  loop-names-stays which = ifs (eqb which 10) (gives tt) (binds names-stays (λ kids _. thens (expect-keeps e kind.In) (gives tt)))
 
   module _ (pattern : Rule ℕ) (keeps : Keeps ground Plain pattern) where
     pub pattern-turn-stays : (kids : Kids) → Keeps ground Plain (patternTurn e pattern kids)

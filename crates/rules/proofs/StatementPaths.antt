@@ -3,7 +3,7 @@ use mathlib.Core.Path.{_≡_, refl, sym, _∙_}
 use mathlib.Core.Bool.{Bool, true, false}
 use Prim.Native.Nat.{ℕ, _<_, _≤_}
 use mathlib.Core.List.{List, [], _∷_}
-use mathlib.Core.Logic.{_⊎_, inl, inr}
+use mathlib.Core.Logic.{inl, inr}
 use native.Mathlib.Omega.{arith}
 use types.Run.{OneOf}
 use denote.Enum.Declared.{tagOf}
@@ -22,7 +22,7 @@ use Rattle.cursor.specs.Rule.{World, world, Stop, fault, done, failed, give, mo
 use Rattle.cursor.specs.Tokens.{startOf, bump}
 use Rattle.cursor.specs.Checks.{check, expect, eatRange, pick, unexpected, unexpectedAt}
 use Rattle.cursor.specs.Records.{add, flagged}
-use Rattle.cursor.specs.Attempts.{attempt}
+use Rattle.cursor.specs.Attempts.{tryParse}
 use Rattle.types.specs.declared.items.Items.{Items}
 use Rattle.types.specs.Lits.{ident}
 use Rattle.types.specs.Items.{close, pair}
@@ -36,11 +36,12 @@ use Rattle.parts.specs.Values.{linkOf, toAssignLeft, rowWith, uncounted}
 use Rattle.rules.specs.Inner.{Inner, expr}
 use Rattle.parts.specs.Records.{couple, rowRecord, blockRecord, fnRecord, functionRecord}
 use Rattle.parts.specs.Steps.{alone, operatorOf, anyParams}
-use Rattle.rules.specs.Blocks.{block, andBlock}
-use Rattle.rules.specs.Functions.{function, fnStmt}
+use Rattle.rules.specs.Blocks.{block, exprAndBlock}
+use Rattle.rules.specs.Functions.{function, namedFunction}
 use Rattle.parts.specs.Effects.{effectStmt}
 use Rattle.parts.specs.Imports.{importStmt}
-use Rattle.rules.specs.Statements.{stmtChain, gloChain, signChain, right, setTo, set, typed, leftOf, leftTurn, lefts, rightTurn, rights, multiTo, multi, assign, gloBy, glo, plain, functionStmt, stmt}
+use Rattle.rules.specs.Statements.{right, setTo, set, typedAssign, leftOf, leftTurn, lefts, rightTurn, rights, multiTo, multi, assign, gloAssign, glo, plain, functionStmt, stmt}
+use Rattle.rules.proofs.Placed.{stmtChain, gloChain, signChain, gloBy, assign-placed, glo-placed, plain-placed}
 
 module _ (r : Inner) where
   -- an expression's link
@@ -60,41 +61,41 @@ module _ (r : Inner) where
     block-shut p = rw p
 
     module _ {from : ℕ} {s1 : State} {w1 : World} (p : expect (r .sheet) kind.OpenBrace s w ≡ done s1 w1 tt) (f : from ≡ startOf (rangeAt (r .sheet .tokens) (s1 .at))) where
-      pub block-failed : {x : Stop} → r .body kind.CloseBrace s1 w1 ≡ failed x → block r wrap s w ≡ failed x
+      pub block-failed : {x : Stop} → r .exprs kind.CloseBrace s1 w1 ≡ failed x → block r wrap s w ≡ failed x
       unfolding block
       block-failed q = rw p (rw (starts (r .sheet) s1 w1 f) (rw q))
 
-      pub block-on : {row : Kids} {s2 : State} {w2 : World} → r .body kind.CloseBrace s1 w1 ≡ done s2 w2 row → block r wrap s w ≡ blockRecord from wrap from row s2 w2
+      pub block-on : {row : Kids} {s2 : State} {w2 : World} → r .exprs kind.CloseBrace s1 w1 ≡ done s2 w2 row → block r wrap s w ≡ blockRecord from wrap from row s2 w2
       unfolding block
       block-on q = rw p (rw (starts (r .sheet) s1 w1 f) (rw q))
 
   -- an expression and a block
   module _ (kids : Kids) (s : State) (w : World) where
-    pub test-failed : {x : Stop} → expr r false s w ≡ failed x → andBlock r kids s w ≡ failed x
-    unfolding andBlock
+    pub test-failed : {x : Stop} → expr r false s w ≡ failed x → exprAndBlock r kids s w ≡ failed x
+    unfolding exprAndBlock
     test-failed p = rw p
 
     module _ {link : ℕ} {s1 : State} {w1 : World} (p : expr r false s w ≡ done s1 w1 link) where
-      pub tested-failed : {x : Stop} → block r 0 s1 w1 ≡ failed x → andBlock r kids s w ≡ failed x
-      unfolding andBlock
+      pub tested-failed : {x : Stop} → block r 0 s1 w1 ≡ failed x → exprAndBlock r kids s w ≡ failed x
+      unfolding exprAndBlock
       tested-failed q = rw p (rw q)
 
-      pub tested-on : {body : ℕ} {one two : Kids} {s2 : State} {w2 w3 w4 : World} → block r 0 s1 w1 ≡ done s2 w2 body → done s2 w3 one ≡ add kids link s2 w2 → done s2 w4 two ≡ add one body s2 w3 → andBlock r kids s w ≡ done s2 w4 two
-      unfolding andBlock
+      pub tested-on : {body : ℕ} {one two : Kids} {s2 : State} {w2 w3 w4 : World} → block r 0 s1 w1 ≡ done s2 w2 body → done s2 w3 one ≡ add kids link s2 w2 → done s2 w4 two ≡ add one body s2 w3 → exprAndBlock r kids s w ≡ done s2 w4 two
+      unfolding exprAndBlock
       tested-on q a b = rw p (rw q (rw (← a) (sym b)))
 
   -- a function
   module _ (from : ℕ) (closure : Bool) (s : State) (w : World) where
-    pub function-shut : {x : Stop} → anyParams (r .sheet) (r .atom) closure s w ≡ failed x → function r from closure s w ≡ failed x
+    pub function-shut : {x : Stop} → anyParams (r .sheet) (r .typeAtom) closure s w ≡ failed x → function r from closure s w ≡ failed x
     unfolding function
     function-shut p = rw p
 
-    module _ {i : Items} {s1 : State} {w1 : World} (p : anyParams (r .sheet) (r .atom) closure s w ≡ done s1 w1 i) where
-      pub function-untyped : {x : Stop} → returns (r .sheet) (r .atom) s1 w1 ≡ failed x → function r from closure s w ≡ failed x
+    module _ {i : Items} {s1 : State} {w1 : World} (p : anyParams (r .sheet) (r .typeAtom) closure s w ≡ done s1 w1 i) where
+      pub function-untyped : {x : Stop} → returns (r .sheet) (r .typeAtom) s1 w1 ≡ failed x → function r from closure s w ≡ failed x
       unfolding function
       function-untyped q = rw p (rw q)
 
-      module _ {link : ℕ} {s2 : State} {w2 : World} (q : returns (r .sheet) (r .atom) s1 w1 ≡ done s2 w2 link) where
+      module _ {link : ℕ} {s2 : State} {w2 : World} (q : returns (r .sheet) (r .typeAtom) s1 w1 ≡ done s2 w2 link) where
         pub function-failed : {x : Stop} → block r 0 s2 w2 ≡ failed x → function r from closure s w ≡ failed x
         unfolding function
         function-failed b = rw p (rw q (rw b))
@@ -105,22 +106,22 @@ module _ (r : Inner) where
 
   -- a named function
   module _ (from : ℕ) (glo : Ranged) (s : State) (w : World) where
-    pub fn-shut : {x : Stop} → expect (r .sheet) kind.Fn s w ≡ failed x → fnStmt r from glo s w ≡ failed x
-    unfolding fnStmt
+    pub fn-shut : {x : Stop} → expect (r .sheet) kind.Fn s w ≡ failed x → namedFunction r from glo s w ≡ failed x
+    unfolding namedFunction
     fn-shut p = rw p
 
     module _ {s1 : State} {w1 : World} (p : expect (r .sheet) kind.Fn s w ≡ done s1 w1 tt) where
-      pub fn-nameless : {x : Stop} → ident (r .sheet) s1 w1 ≡ failed x → fnStmt r from glo s w ≡ failed x
-      unfolding fnStmt
+      pub fn-nameless : {x : Stop} → ident (r .sheet) s1 w1 ≡ failed x → namedFunction r from glo s w ≡ failed x
+      unfolding namedFunction
       fn-nameless q = rw p (rw q)
 
       module _ {name : ℕ} {s2 : State} {w2 : World} (q : ident (r .sheet) s1 w1 ≡ done s2 w2 name) where
-        pub fn-failed : {x : Stop} → function r from false s2 w2 ≡ failed x → fnStmt r from glo s w ≡ failed x
-        unfolding fnStmt
+        pub fn-failed : {x : Stop} → function r from false s2 w2 ≡ failed x → namedFunction r from glo s w ≡ failed x
+        unfolding namedFunction
         fn-failed b = rw p (rw q (rw b))
 
-        pub fn-on : {link : ℕ} {s3 : State} {w3 : World} → function r from false s2 w2 ≡ done s3 w3 link → fnStmt r from glo s w ≡ fnRecord from glo name link s3 w3
-        unfolding fnStmt
+        pub fn-on : {link : ℕ} {s3 : State} {w3 : World} → function r from false s2 w2 ≡ done s3 w3 link → namedFunction r from glo s w ≡ fnRecord from glo name link s3 w3
+        unfolding namedFunction
         fn-on b = rw p (rw q (rw b))
 
   -- the right side of an assignment
@@ -154,8 +155,8 @@ module _ (r : Inner) where
         set-op c d = rw (← p) (rw q (rw (ne-eqb _ _ c) (rw d)))
 
   -- an assignment to a name with a type: to anything else it is an error
-  pub typed-wrong : (from : ℕ) (x : Expr) (s : State) (w : World) → OneOf (1 ∷ 2 ∷ 3 ∷ []) (tagOf told.the-type x) → typed r from x s w ≡ failed (fault s w (unexpectedAt (r .sheet) s))
-  unfolding typed unexpected
+  pub typed-wrong : (from : ℕ) (x : Expr) (s : State) (w : World) → OneOf (1 ∷ 2 ∷ 3 ∷ []) (tagOf told.the-type x) → typedAssign r from x s w ≡ failed (fault s w (unexpectedAt (r .sheet) s))
+  unfolding typedAssign unexpected
   typed-wrong from (exprs.Name name) s w (inl h) = absurd (omega arith)
   typed-wrong from (exprs.Name name) s w (inr (inl h)) = absurd (omega arith)
   typed-wrong from (exprs.Name name) s w (inr (inr h)) = absurd (omega arith)
@@ -164,27 +165,27 @@ module _ (r : Inner) where
   typed-wrong from (exprs.Other link) s w h = refl
 
   module _ (from : ℕ) (x : Expr) (s : State) (w : World) {name : ℕ} (n : x ≡ exprs.Name name) where
-    pub typed-spent : {y : Stop} → bump (r .sheet) s w ≡ failed y → typed r from x s w ≡ failed y
-    unfolding typed
+    pub typed-spent : {y : Stop} → bump (r .sheet) s w ≡ failed y → typedAssign r from x s w ≡ failed y
+    unfolding typedAssign
     typed-spent p = rw n (rw p)
 
     module _ {s1 : State} {w1 : World} (p : bump (r .sheet) s w ≡ done s1 w1 tt) where
-      pub typed-failed : {y : Stop} → type (r .sheet) (r .atom) s1 w1 ≡ failed y → typed r from x s w ≡ failed y
-      unfolding typed
+      pub typed-failed : {y : Stop} → type (r .sheet) (r .typeAtom) s1 w1 ≡ failed y → typedAssign r from x s w ≡ failed y
+      unfolding typedAssign
       typed-failed q = rw n (rw p (rw q))
 
-      module _ {t : ℕ} {s2 : State} {w2 : World} (q : type (r .sheet) (r .atom) s1 w1 ≡ done s2 w2 t) where
-        pub typed-full : {y : Stop} → pair node.TypedIdent from name t s2 w2 ≡ failed y → typed r from x s w ≡ failed y
-        unfolding typed
+      module _ {t : ℕ} {s2 : State} {w2 : World} (q : type (r .sheet) (r .typeAtom) s1 w1 ≡ done s2 w2 t) where
+        pub typed-full : {y : Stop} → pair node.TypedIdent from name t s2 w2 ≡ failed y → typedAssign r from x s w ≡ failed y
+        unfolding typedAssign
         typed-full b = rw n (rw p (rw q (rw b)))
 
         module _ {link : ℕ} {s3 : State} {w3 : World} (b : pair node.TypedIdent from name t s2 w2 ≡ done s3 w3 link) where
-          pub typed-open : {y : Stop} → expect (r .sheet) kind.Assign s3 w3 ≡ failed y → typed r from x s w ≡ failed y
-          unfolding typed
+          pub typed-open : {y : Stop} → expect (r .sheet) kind.Assign s3 w3 ≡ failed y → typedAssign r from x s w ≡ failed y
+          unfolding typedAssign
           typed-open c = rw n (rw p (rw q (rw b (rw c))))
 
-          pub typed-on : {s4 : State} {w4 : World} → expect (r .sheet) kind.Assign s3 w3 ≡ done s4 w4 tt → typed r from x s w ≡ right r from node.Assign 0 link s4 w4
-          unfolding typed
+          pub typed-on : {s4 : State} {w4 : World} → expect (r .sheet) kind.Assign s3 w3 ≡ done s4 w4 tt → typedAssign r from x s w ≡ right r from node.Assign 0 link s4 w4
+          unfolding typedAssign
           typed-on c = rw n (rw p (rw q (rw b (rw c))))
 
   -- one left side more
@@ -282,93 +283,80 @@ module _ (r : Inner) where
   -- an expression, or the assignment that it begins
   module _ (from : ℕ) (s : State) (w : World) where
     pub assign-failed : {y : Stop} → r .prec 1 true s w ≡ failed y → assign r from s w ≡ failed y
-    unfolding assign
-    assign-failed p = rw p
+    assign-failed p = rw (assign-placed r from) (rw p)
 
     module _ {x : Expr} {s1 : State} {w1 : World} (p : r .prec 1 true s w ≡ done s1 w1 x) where
-      pub assign-full : {y : Stop} → pick (r .sheet) signChain s1 w1 ≡ failed y → assign r from s w ≡ failed y
-      unfolding assign
-      assign-full q = rw p (rw q)
+      pub assign-full : {y : Stop} → pick (r .sheet) (signChain r) s1 w1 ≡ failed y → assign r from s w ≡ failed y
+      assign-full q = rw (assign-placed r from) (rw p (rw q))
 
-      module _ {which : ℕ} {s2 : State} {w2 : World} (q : pick (r .sheet) signChain s1 w1 ≡ done s2 w2 which) where
+      module _ {which : ℕ} {s2 : State} {w2 : World} (q : pick (r .sheet) (signChain r) s1 w1 ≡ done s2 w2 which) where
         pub assign-multi : which ≡ 0 → assign r from s w ≡ multi r from x s2 w2
-        unfolding assign
-        assign-multi a = rw p (rw q (rw (eq-eqb _ _ a)))
+        assign-multi a = rw (assign-placed r from) (rw p (rw q (rw (eq-eqb _ _ a))))
 
         module _ (a : which ≡ 0 → ⊥) where
-          pub assign-typed : which ≡ 1 → assign r from s w ≡ typed r from x s2 w2
-          unfolding assign
-          assign-typed b = rw p (rw q (rw (ne-eqb _ _ a) (rw (eq-eqb _ _ b))))
+          pub assign-typed : which ≡ 1 → assign r from s w ≡ typedAssign r from x s2 w2
+          assign-typed b = rw (assign-placed r from) (rw p (rw q (rw (ne-eqb _ _ a) (rw (eq-eqb _ _ b)))))
 
           module _ (b : which ≡ 1 → ⊥) where
             pub assign-none : {link : ℕ} → 7 < which → link ≡ linkOf x → assign r from s w ≡ done s2 w2 link
-            unfolding assign
-            assign-none c d = rw p (rw q (rw (ne-eqb _ _ a) (rw (ne-eqb _ _ b) (rw (lt-ltb _ _ c) (rw d)))))
+            assign-none c d = rw (assign-placed r from) (rw p (rw q (rw (ne-eqb _ _ a) (rw (ne-eqb _ _ b) (rw (lt-ltb _ _ c) (rw d))))))
 
-            pub assign-set : which ≤ 7 → assign r from s w ≡ set r from (getD signChain which 0) x s2 w2
-            unfolding assign
-            assign-set c = rw p (rw q (rw (ne-eqb _ _ a) (rw (ne-eqb _ _ b) (rw (le-ltb _ _ c)))))
+            pub assign-set : which ≤ 7 → assign r from s w ≡ set r from (getD (signChain r) which 0) x s2 w2
+            assign-set c = rw (assign-placed r from) (rw p (rw q (rw (ne-eqb _ _ a) (rw (ne-eqb _ _ b) (rw (le-ltb _ _ c))))))
 
     -- behind `glo`
     pub glo-spent : {y : Stop} → bump (r .sheet) s w ≡ failed y → glo r from s w ≡ failed y
-    unfolding glo
-    glo-spent p = rw p
+    glo-spent p = rw (glo-placed r from s w) (rw p)
 
     module _ {s1 : State} {w1 : World} (p : bump (r .sheet) s w ≡ done s1 w1 tt) where
-      pub glo-full : {y : Stop} → pick (r .sheet) gloChain s1 w1 ≡ failed y → glo r from s w ≡ failed y
-      unfolding glo
-      glo-full q = rw p (rw q)
+      pub glo-full : {y : Stop} → pick (r .sheet) (gloChain r) s1 w1 ≡ failed y → glo r from s w ≡ failed y
+      glo-full q = rw (glo-placed r from s w) (rw p (rw q))
 
-      module _ {here : Ranged} (h : here ≡ rangeAt (r .sheet .tokens) (s .at)) {which : ℕ} {s2 : State} {w2 : World} (q : pick (r .sheet) gloChain s1 w1 ≡ done s2 w2 which) where
-        pub glo-fn : which ≡ 0 → glo r from s w ≡ fnStmt r from here s2 w2
-        unfolding glo gloBy
-        glo-fn a = rw p (rw q (rw (eq-eqb _ _ a) (rw h)))
+      module _ {here : Ranged} (h : here ≡ rangeAt (r .sheet .tokens) (s .at)) {which : ℕ} {s2 : State} {w2 : World} (q : pick (r .sheet) (gloChain r) s1 w1 ≡ done s2 w2 which) where
+        pub glo-fn : which ≡ 0 → glo r from s w ≡ namedFunction r from here s2 w2
+        unfolding gloBy gloAssign
+        glo-fn a = rw (glo-placed r from s w) (rw p (rw q (rw (eq-eqb _ _ a) (rw h))))
 
         module _ (a : which ≡ 0 → ⊥) where
-          pub glo-effect : which ≡ 1 → glo r from s w ≡ effectStmt (r .sheet) (r .atom) from here s2 w2
-          unfolding glo gloBy
-          glo-effect b = rw p (rw q (rw (ne-eqb _ _ a) (rw (eq-eqb _ _ b) (rw h))))
+          pub glo-effect : which ≡ 1 → glo r from s w ≡ effectStmt (r .sheet) (r .typeAtom) from here s2 w2
+          unfolding gloBy gloAssign
+          glo-effect b = rw (glo-placed r from s w) (rw p (rw q (rw (ne-eqb _ _ a) (rw (eq-eqb _ _ b) (rw h)))))
 
           module _ (b : which ≡ 1 → ⊥) where
-            pub glo-lost : {y : Stop} → typedIdent (r .sheet) (named (r .sheet) (r .atom) false) s2 w2 ≡ failed y → glo r from s w ≡ failed y
-            unfolding glo gloBy
-            glo-lost c = rw p (rw q (rw (ne-eqb _ _ a) (rw (ne-eqb _ _ b) (rw c))))
+            pub glo-lost : {y : Stop} → typedIdent (r .sheet) (named (r .sheet) (r .typeAtom) false) s2 w2 ≡ failed y → glo r from s w ≡ failed y
+            unfolding gloBy gloAssign
+            glo-lost c = rw (glo-placed r from s w) (rw p (rw q (rw (ne-eqb _ _ a) (rw (ne-eqb _ _ b) (rw c)))))
 
-            module _ {name : ℕ} {s3 : State} {w3 : World} (c : typedIdent (r .sheet) (named (r .sheet) (r .atom) false) s2 w2 ≡ done s3 w3 name) where
+            module _ {name : ℕ} {s3 : State} {w3 : World} (c : typedIdent (r .sheet) (named (r .sheet) (r .typeAtom) false) s2 w2 ≡ done s3 w3 name) where
               pub glo-open : {y : Stop} → expect (r .sheet) kind.Assign s3 w3 ≡ failed y → glo r from s w ≡ failed y
-              unfolding glo gloBy
-              glo-open d = rw p (rw q (rw (ne-eqb _ _ a) (rw (ne-eqb _ _ b) (rw c (rw d)))))
+              unfolding gloBy gloAssign
+              glo-open d = rw (glo-placed r from s w) (rw p (rw q (rw (ne-eqb _ _ a) (rw (ne-eqb _ _ b) (rw c (rw d))))))
 
               pub glo-assign : {s4 : State} {w4 : World} → expect (r .sheet) kind.Assign s3 w3 ≡ done s4 w4 tt → glo r from s w ≡ right r from node.GloAssign 0 name s4 w4
-              unfolding glo gloBy
-              glo-assign d = rw p (rw q (rw (ne-eqb _ _ a) (rw (ne-eqb _ _ b) (rw c (rw d)))))
+              unfolding gloBy gloAssign
+              glo-assign d = rw (glo-placed r from s w) (rw p (rw q (rw (ne-eqb _ _ a) (rw (ne-eqb _ _ b) (rw c (rw d))))))
 
   -- a statement that is no named function
   module _ (s : State) (w : World) {from : ℕ} (f : from ≡ startOf (rangeAt (r .sheet .tokens) (s .at))) where
-    pub plain-full : {y : Stop} → pick (r .sheet) stmtChain s w ≡ failed y → plain r s w ≡ failed y
-    unfolding plain
-    plain-full q = rw (starts (r .sheet) s w f) (rw q)
+    pub plain-full : {y : Stop} → pick (r .sheet) (stmtChain r) s w ≡ failed y → plain r s w ≡ failed y
+    plain-full q = rw (plain-placed r) (rw (starts (r .sheet) s w f) (rw q))
 
-    module _ {which : ℕ} {s1 : State} {w1 : World} (q : pick (r .sheet) stmtChain s w ≡ done s1 w1 which) where
+    module _ {which : ℕ} {s1 : State} {w1 : World} (q : pick (r .sheet) (stmtChain r) s w ≡ done s1 w1 which) where
       pub plain-import : which ≡ 0 → plain r s w ≡ importStmt (r .sheet) from s1 w1
-      unfolding plain
-      plain-import a = rw (starts (r .sheet) s w f) (rw q (rw (eq-eqb _ _ a)))
+      plain-import a = rw (plain-placed r) (rw (starts (r .sheet) s w f) (rw q (rw (eq-eqb _ _ a))))
 
       module _ (a : which ≡ 0 → ⊥) where
-        pub plain-effect : which ≡ 1 → plain r s w ≡ effectStmt (r .sheet) (r .atom) from ranged.Nowhere s1 w1
-        unfolding plain
-        plain-effect b = rw (starts (r .sheet) s w f) (rw q (rw (ne-eqb _ _ a) (rw (eq-eqb _ _ b))))
+        pub plain-effect : which ≡ 1 → plain r s w ≡ effectStmt (r .sheet) (r .typeAtom) from ranged.Nowhere s1 w1
+        plain-effect b = rw (plain-placed r) (rw (starts (r .sheet) s w f) (rw q (rw (ne-eqb _ _ a) (rw (eq-eqb _ _ b)))))
 
         module _ (b : which ≡ 1 → ⊥) where
           pub plain-glo : which ≡ 2 → plain r s w ≡ glo r from s1 w1
-          unfolding plain
-          plain-glo c = rw (starts (r .sheet) s w f) (rw q (rw (ne-eqb _ _ a) (rw (ne-eqb _ _ b) (rw (eq-eqb _ _ c)))))
+          plain-glo c = rw (plain-placed r) (rw (starts (r .sheet) s w f) (rw q (rw (ne-eqb _ _ a) (rw (ne-eqb _ _ b) (rw (eq-eqb _ _ c))))))
 
           pub plain-assign : (which ≡ 2 → ⊥) → plain r s w ≡ assign r from s1 w1
-          unfolding plain
-          plain-assign c = rw (starts (r .sheet) s w f) (rw q (rw (ne-eqb _ _ a) (rw (ne-eqb _ _ b) (rw (ne-eqb _ _ c)))))
+          plain-assign c = rw (plain-placed r) (rw (starts (r .sheet) s w f) (rw q (rw (ne-eqb _ _ a) (rw (ne-eqb _ _ b) (rw (ne-eqb _ _ c))))))
 
-  pub function-stmt-is : (s : State) (w : World) {from : ℕ} → from ≡ startOf (rangeAt (r .sheet .tokens) (s .at)) → functionStmt r s w ≡ fnStmt r from ranged.Nowhere s w
+  pub function-stmt-is : (s : State) (w : World) {from : ℕ} → from ≡ startOf (rangeAt (r .sheet .tokens) (s .at)) → functionStmt r s w ≡ namedFunction r from ranged.Nowhere s w
   unfolding functionStmt
   function-stmt-is s w f = rw (starts (r .sheet) s w f)
 
@@ -386,6 +374,6 @@ module _ (r : Inner) where
     pub met : {s1 t : State} {n n1 e e1 x x1 l l1 : List ℕ} → stmt r s w ≡ plain r s1 (world n e x l) → n1 ≡ n → e1 ≡ e → x1 ≡ x → l1 ≡ l → t ≡ s1 → stmt r s w ≡ plain r t (world n1 e1 x1 l1)
     met p n e x l t = p ∙ sym (λ j. plain r (t j) (world (n j) (e j) (x j) (l j)))
 
-    pub stmt-tried : {s1 : State} {w1 : World} → check (r .sheet) kind.Fn s w ≡ done s1 w1 true → stmt r s w ≡ attempt (functionStmt r) give (plain r) s1 w1
+    pub stmt-tried : {s1 : State} {w1 : World} → check (r .sheet) kind.Fn s w ≡ done s1 w1 true → stmt r s w ≡ tryParse (functionStmt r) give (plain r) s1 w1
     unfolding stmt
     stmt-tried p = rw p

@@ -6,7 +6,6 @@ use mathlib.Core.Bool.{Bool, true, false}
 use Prim.Native.Nat.{ℕ, zero, suc}
 use native.Mathlib.Omega.{arith}
 use lib.Dec.{eqb}
-use lib.ListN.{length}
 use Rattle.kinds.specs.Number as kind
 use Rattle.cursor.specs.declared.State.{State}
 use Rattle.cursor.specs.declared.Kids.{Kids}
@@ -14,13 +13,14 @@ use Rattle.cursor.specs.declared.Fault.{Fault}
 use Rattle.cursor.specs.Sheet.{Sheet}
 use Rattle.cursor.specs.Rule.{Rule, _>>=_, _>>_, ifSo, Next, more, stop, Turn, iterate}
 use Rattle.cursor.specs.Tokens.{bump}
-use Rattle.cursor.specs.Checks.{expect, pick}
+use Rattle.cursor.specs.Checks.{expect, Case, choose}
 use Rattle.cursor.specs.Records.{add, reflag, noKids}
 use Rattle.cursor.proofs.Ends.{ill}
+use Rattle.cursor.proofs.Chosen.{kindsOf, Every, each}
 use Rattle.cursor.proofs.Keeps.{Keeps, Plain, Nexts, ground, went-refl, gives, eases, plain, binds, thens, loops}
-use Rattle.cursor.proofs.Kept.{bump-keeps, expect-keeps, pick-keeps, append-keeps, add-keeps, reflag-keeps, Fresh, ground-mine}
+use Rattle.cursor.proofs.Kept.{bump-keeps, expect-keeps, chooses, append-keeps, add-keeps, reflag-keeps, Fresh, ground-mine}
 use Rattle.cursor.proofs.Spends.{Spends, Feeds, feeds, first-spends, first-feeds, then-spends}
-use Rattle.cursor.proofs.Spent.{noEof, bump-feeds, expect-spends, pick-spends}
+use Rattle.cursor.proofs.Spent.{noEof, bump-feeds, expect-spends, choose-spends}
 use Rattle.types.specs.Items.{close, pair, addSome}
 use Rattle.rules.specs.Inner.{Inner, expr}
 use Rattle.parts.specs.When.{failWith}
@@ -77,17 +77,13 @@ module _ {A : Type 0} {e : Sheet} where
   pub expects : {rule : Rule A} (k : ℕ) → eqb k kind.Eof ≡ false → Keeps ground Plain rule → Starts e (expect e k >> rule)
   expects k n x = record { stays = thens (expect-keeps e k) x; spends = first-spends (expect-spends k n) (λ _. x) }
 
-  pub either-opens : {r q : Rule A} (b : Bool) → Opens e r → Opens e q → Opens e (ifSo r q b)
-  either-opens true x y = x
-  either-opens false x y = y
-
   pub either-starts : {r q : Rule A} (b : Bool) → Starts e r → Starts e q → Starts e (ifSo r q b)
   either-starts true x y = x
   either-starts false x y = y
 
-  -- a chain of tests: what follows takes the token that was found; past the chain it has to take one all the same
-  pub picks-start : {k : ℕ → Rule A} (ks : List ℕ) → noEof ks ≡ true → ((i : ℕ) → Opens e (k i)) → Starts e (k (length ks)) → Starts e (pick e ks >>= k)
-  picks-start ks n x y = record { stays = binds (pick-keeps e ks 0) (λ i _. x i .stays); spends = pick-spends ks n (λ i _. x i .feeds) (y .spends) }
+  -- a chain of checks: what follows takes the token that was found; past the chain it has to take one all the same
+  pub chooses-start : (cases : List (Case A)) {other : Rule A} → noEof (kindsOf cases) ≡ true → Every (Opens e) cases → Starts e other → Starts e (choose e cases other)
+  chooses-start cases n x y = record { stays = chooses e cases (each (λ r o. o .stays) cases x) (y .stays); spends = choose-spends cases n (each (λ r o. o .feeds) cases x) (y .spends) }
 
   -- a rule that looks at the state which it begins in
   pub opens-at : {rule : State → Rule A} → ((s : State) → Opens e (rule s)) → Opens e (λ s w. rule s s w)
@@ -106,9 +102,9 @@ module _ {A B : Type 0} {e : Sheet} {rule : Rule A} {k : A → Rule B} where
 
 -- what the rules that are handed over keep: an expression takes a token; of a type atom the rules on types ask for its link to be one
 pub record Stays (r : Inner) : Type 0 where
-  pub body : (end : ℕ) → Keeps ground Plain (r .body end)
+  pub exprs : (end : ℕ) → Keeps ground Plain (r .exprs end)
   pub prec : (min : ℕ) (lambda : Bool) → Starts (r .sheet) (r .prec min lambda)
-  pub atom : Keeps ground (Fresh ground) (r .atom)
+  pub typeAtom : Keeps ground (Fresh ground) (r .typeAtom)
   pub pattern : Keeps ground Plain (r .pattern)
 
 -- an expression

@@ -2,7 +2,6 @@
 use mathlib.Core.Path.{refl}
 use mathlib.Core.Bool.{true, false}
 use Prim.Native.Nat.{ℕ, zero, suc}
-use lib.ListN.{getD}
 use lib.Dec.{ltb, eqb}
 use Rattle.kinds.specs.Number as kind
 use Rattle.cursor.specs.declared.Kids.{Kids}
@@ -13,12 +12,12 @@ use Rattle.cursor.specs.Sheet.{Sheet}
 use Rattle.cursor.specs.Rule.{Rule, _>>=_, give, Next, more}
 use Rattle.cursor.specs.Records.{add, noKids}
 use Rattle.cursor.specs.Checks.{unexpectedAt}
-use mathlib.Core.List.{[], _∷_}
-use Rattle.cursor.specs.Attempts.{attempt}
+use Rattle.cursor.specs.Attempts.{tryParse}
 use Rattle.cursor.proofs.Ends.{cut}
 use Rattle.cursor.proofs.Spends.{attempt-spends, first-spends}
+use Rattle.cursor.proofs.Chosen.{all, _&_}
 use Rattle.cursor.proofs.Keeps.{Keeps, Plain, ground, gives, refuses, ifs, plain, binds, thens, attempts}
-use Rattle.cursor.proofs.Kept.{bump-keeps, check-keeps, eat-keeps, expect-keeps, unexpected-keeps, eat-range-keeps, pick-keeps, eat-eol-keeps, log-keeps, recovers}
+use Rattle.cursor.proofs.Kept.{bump-keeps, check-keeps, eat-keeps, expect-keeps, unexpected-keeps, eat-range-keeps, chooses, eat-eol-keeps, log-keeps, recovers}
 use Rattle.types.proofs.ItemKeeps.{start-keeps, ident-keeps}
 use Rattle.types.proofs.TypeKeeps.{type-keeps, typed-keeps, atoms-keep}
 use Rattle.types.proofs.PatternKeeps.{patterns-keep}
@@ -31,15 +30,14 @@ use Rattle.parts.specs.declared.imports.Imported.{Imported}
 use Rattle.parts.specs.Answers.{onPath}
 use Rattle.parts.specs.Values.{toAssignLeft, rowWith, uncounted}
 use Rattle.rules.specs.Inner.{Inner}
-use Rattle.parts.specs.When.{when, failWith}
+use Rattle.parts.specs.When.{failWith}
 use Rattle.parts.specs.Steps.{alone, operatorOf}
-use Rattle.parts.specs.Effects.{effectStmt}
-use Rattle.parts.specs.Imports.{endChain, tailChain, importItem, importItems, importEnd, importTail, pathTurn, importStmt}
-use Rattle.rules.specs.Statements.{stmtChain, gloChain, signChain, right, setTo, set, typed, leftOf, leftTurn, lefts, rightTurn, rights, multiTo, multi, assign, gloBy, glo, plain as plainStmt, functionStmt, stmt}
-use Rattle.parts.specs.Recovery.{skipTurn, skip, skipped, logHere, lineEnd, afterStmt}
-use Rattle.rules.specs.Body.{stmtOr, bodyTurn, body}
+use Rattle.parts.specs.Imports.{endCases, tailCases, importItem, importItems, importSimple, importAlias, importNested, importGlob, importEnd, importTail, pathTurn, importStmt}
+use Rattle.rules.specs.Statements.{stmtCases, gloCases, signCases, right, setTo, set, typedAssign, leftOf, leftTurn, lefts, rightTurn, rights, multiTo, multi, assign, gloAssign, glo, plain as plainStmt, functionStmt, stmt}
+use Rattle.parts.specs.Recovery.{skipCases, skipTurn, skip, skipped, logHere, lineEnd, afterStmt}
+use Rattle.rules.specs.Exprs.{stmtOr, exprsTurn, exprs as exprs-rule}
 use Rattle.rules.specs.Levels.{knot, levels}
-use Rattle.rules.proofs.Stays.{Stays, Starts, Opens, opens, bumps, either-opens, either-starts, opens-at, starts-first, starts-then, picks-start, rounds, fails, add-stays, add-some-stays, close-stays, pair-stays, expr-stays}
+use Rattle.rules.proofs.Stays.{Stays, Starts, Opens, opens, bumps, either-starts, opens-at, starts-first, starts-then, chooses-start, rounds, fails, add-stays, add-some-stays, close-stays, pair-stays, expr-stays}
 use Rattle.rules.proofs.RecordStays.{ident-starts, couple-stays, row-record-stays}
 use Rattle.rules.proofs.ExprStays.{items-until-stays, effect-stmt-starts, fn-stmt-starts, precedence-starts}
 
@@ -57,14 +55,12 @@ module _ (e : Sheet) where
   import-items-stays kids = items-until-stays e import-item-stays kind.CloseBrace kids
 
   pub import-end-stays : (kids : Kids) → Keeps ground Plain (importEnd e kids)
-  unfolding importEnd
-  import-end-stays kids =
-      binds (pick-keeps e endChain 0) (λ which _. ifs (eqb which 0) (gives tt) (ifs (ltb 1 which) (unexpected-keeps e) (thens (bump-keeps e) (binds (ident-keeps e) (λ alias _. binds (add-stays kids alias) (λ longer _. gives tt))))))
+  unfolding importEnd importSimple importAlias
+  import-end-stays kids = chooses e (endCases e kids) (gives tt & thens (bump-keeps e) (binds (ident-keeps e) (λ alias _. binds (add-stays kids alias) (λ longer _. gives tt))) & all) (unexpected-keeps e)
 
   pub import-tail-stays : (kids : Kids) → Keeps ground Plain (importTail e kids)
-  unfolding importTail
-  import-tail-stays kids =
-      binds (pick-keeps e tailChain 0) (λ which _. ifs (ltb 1 which) (unexpected-keeps e) (thens (bump-keeps e) (ifs (eqb which 1) (gives tt) (binds (import-items-stays (uncounted kids)) (λ i _. gives tt)))))
+  unfolding importTail importNested importGlob
+  import-tail-stays kids = chooses e (tailCases e kids) (thens (bump-keeps e) (binds (import-items-stays (uncounted kids)) (λ i _. gives tt)) & thens (bump-keeps e) (gives tt) & all) (unexpected-keeps e)
 
   pub path-turn-starts : (i : Imported) → Starts e (pathTurn e i)
   unfolding pathTurn
@@ -102,10 +98,10 @@ module _ {r : Inner} (h : Stays r) where
   unfolding set
   set-stays from sign x = set-to-stays from sign (toAssignLeft x)
 
-  pub typed-stays : (from : ℕ) (x : Expr) → Keeps ground Plain (typed r from x)
-  unfolding typed
+  pub typed-stays : (from : ℕ) (x : Expr) → Keeps ground Plain (typedAssign r from x)
+  unfolding typedAssign
   typed-stays from (exprs.Name name) =
-      thens (bump-keeps (r .sheet)) (binds (type-keeps (r .sheet) _ (h .atom)) (λ t _. binds (pair-stays node.TypedIdent from name t) (λ link _. thens (expect-keeps (r .sheet) kind.Assign) (right-stays from node.Assign 0 link))))
+      thens (bump-keeps (r .sheet)) (binds (type-keeps (r .sheet) _ (h .typeAtom)) (λ t _. binds (pair-stays node.TypedIdent from name t) (λ link _. thens (expect-keeps (r .sheet) kind.Assign) (right-stays from node.Assign 0 link))))
   typed-stays from (exprs.NameMember link) = unexpected-keeps (r .sheet)
   typed-stays from (exprs.Call link called) = unexpected-keeps (r .sheet)
   typed-stays from (exprs.Other link) = unexpected-keeps (r .sheet)
@@ -152,24 +148,21 @@ module _ {r : Inner} (h : Stays r) where
   pub assign-starts : (from : ℕ) → Starts (r .sheet) (assign r from)
   unfolding assign
   assign-starts from =
-      starts-first (h .prec 1 true) (λ x. binds (pick-keeps (r .sheet) signChain 0) (λ which _. ifs (eqb which 0) (multi-stays from x) (ifs (eqb which 1) (typed-stays from x) (ifs (ltb 7 which) (gives tt) (set-stays from (getD signChain which 0) x)))))
+      starts-first (h .prec 1 true) (λ x. chooses (r .sheet) (signCases r from x)
+      (multi-stays from x & typed-stays from x & set-stays from _ x & set-stays from _ x & set-stays from _ x & set-stays from _ x & set-stays from _ x & set-stays from _ x & all)
+      (gives tt))
 
-  pub glo-by-stays : (from : ℕ) (here : Ranged) (which : ℕ) → Keeps ground Plain (gloBy r from here which)
-  unfolding gloBy
-  glo-by-stays from here which =
-      ifs (eqb which 0) (fn-stmt-starts h from here .stays) (ifs (eqb which 1) (effect-stmt-starts (r .sheet) (h .atom) from here .stays)
-      (binds (typed-keeps (r .sheet) _ (h .atom) false) (λ name _. thens (expect-keeps (r .sheet) kind.Assign) (right-stays from node.GloAssign 0 name))))
+  glo-assign-stays : (from : ℕ) → Keeps ground Plain (gloAssign r from)
+  unfolding gloAssign
+  glo-assign-stays from = binds (typed-keeps (r .sheet) _ (h .typeAtom) false) (λ name _. thens (expect-keeps (r .sheet) kind.Assign) (right-stays from node.GloAssign 0 name))
 
   pub glo-opens : (from : ℕ) → Opens (r .sheet) (glo r from)
   unfolding glo
-  glo-opens from = opens-at (λ s. bumps (binds (pick-keeps (r .sheet) gloChain 0) (λ which _. glo-by-stays from _ which)))
+  glo-opens from = opens-at (λ s. bumps (chooses (r .sheet) (gloCases r from _) (fn-stmt-starts h from _ .stays & effect-stmt-starts (r .sheet) (h .typeAtom) from _ .stays & all) (glo-assign-stays from)))
 
   pub plain-starts : Starts (r .sheet) (plainStmt r)
   unfolding plainStmt
-  plain-starts = starts-then (start-keeps (r .sheet)) (λ from. picks-start stmtChain refl (by from) (assign-starts from))
-    where
-      by : (from i : ℕ) → Opens (r .sheet) (when (eqb i 0) (importStmt (r .sheet) from) (when (eqb i 1) (effectStmt (r .sheet) (r .atom) from ranged.Nowhere) (when (eqb i 2) (glo r from) (assign r from))))
-      by from i = either-opens (eqb i 0) (import-stmt-opens (r .sheet) from) (either-opens (eqb i 1) (opens (effect-stmt-starts (r .sheet) (h .atom) from ranged.Nowhere)) (either-opens (eqb i 2) (glo-opens from) (opens (assign-starts from))))
+  plain-starts = starts-then (start-keeps (r .sheet)) (λ from. chooses-start (stmtCases r from) refl (import-stmt-opens (r .sheet) from & opens (effect-stmt-starts (r .sheet) (h .typeAtom) from ranged.Nowhere) & glo-opens from & all) (assign-starts from))
 
   pub function-stmt-starts : Starts (r .sheet) (functionStmt r)
   unfolding functionStmt
@@ -180,7 +173,7 @@ module _ {r : Inner} (h : Stays r) where
   unfolding stmt
   stmt-starts = starts-then (check-keeps (r .sheet) kind.Fn) (λ here. either-starts here tries plain-starts)
     where
-      tries : Starts (r .sheet) (attempt (functionStmt r) give (plainStmt r))
+      tries : Starts (r .sheet) (tryParse (functionStmt r) give (plainStmt r))
       tries = record {
         stays = attempts (function-stmt-starts .stays) (λ link _. gives tt) (plain-starts .stays);
         spends = attempt-spends give (function-stmt-starts .stays) (first-spends (function-stmt-starts .spends) (λ link. gives tt)) (plain-starts .spends);
@@ -190,7 +183,7 @@ module _ {r : Inner} (h : Stays r) where
 module _ (e : Sheet) where
   pub skip-turn-stays : (end : ℕ) (a : Unit) → Keeps ground Plain (skipTurn e end a)
   unfolding skipTurn
-  skip-turn-stays end a = binds (pick-keeps e (kind.Eol ∷ kind.Eof ∷ end ∷ []) 0) (λ which _. ifs (ltb which 3) (gives tt) (thens (bump-keeps e) (gives tt)))
+  skip-turn-stays end a = chooses e (skipCases e end) (gives tt & gives tt & gives tt & all) (thens (bump-keeps e) (gives tt))
 
   pub skip-stays : (end : ℕ) → Keeps ground Plain (skip e end)
   unfolding skip
@@ -220,16 +213,16 @@ module _ {r : Inner} (h : Stays r) where
   unfolding stmtOr
   stmt-or-stays end = recovers (stmt-starts h .stays) (λ link _. gives tt) (skipped-stays (r .sheet) end)
 
-  pub body-turn-stays : (end : ℕ) (kids : Kids) → Keeps ground Plain (bodyTurn r end kids)
-  unfolding bodyTurn
+  pub body-turn-stays : (end : ℕ) (kids : Kids) → Keeps ground Plain (exprsTurn r end kids)
+  unfolding exprsTurn
   body-turn-stays end kids = binds (eat-keeps (r .sheet) end) (λ closed _. ifs closed (gives tt) (binds (stmt-or-stays end) (λ link _. after-stmt-stays (r .sheet) end kids link)))
 
-  pub body-stays : (end : ℕ) → Keeps ground Plain (body r end)
-  unfolding body
+  pub body-stays : (end : ℕ) → Keeps ground Plain (exprs-rule r end)
+  unfolding exprs-rule
   body-stays end = thens (eat-eol-keeps (r .sheet)) (rounds (body-turn-stays end) (r .sheet) noKids)
 
 -- with any number of levels left
 pub knot-stays : (e : Sheet) (d : ℕ) → Stays (levels e d)
 unfolding knot
-knot-stays e zero = record { body = λ end. refuses; prec = λ min lambda. record { stays = refuses; spends = record { ends = λ s w. cut } }; atom = atoms-keep e zero; pattern = plain (patterns-keep e zero) }
-knot-stays e (suc d) = record { body = body-stays (knot-stays e d); prec = precedence-starts (knot-stays e d); atom = atoms-keep e (suc d); pattern = plain (patterns-keep e (suc d)) }
+knot-stays e zero = record { exprs = λ end. refuses; prec = λ min lambda. record { stays = refuses; spends = record { ends = λ s w. cut } }; typeAtom = atoms-keep e zero; pattern = plain (patterns-keep e zero) }
+knot-stays e (suc d) = record { exprs = body-stays (knot-stays e d); prec = precedence-starts (knot-stays e d); typeAtom = atoms-keep e (suc d); pattern = plain (patterns-keep e (suc d)) }

@@ -11,14 +11,14 @@ use Rattle.cursor.specs.Sheet.{rangeAt}
 use Rattle.cursor.specs.Rule.{World, Stop, Out, done, failed, bind, iterate}
 use Rattle.cursor.specs.Tokens.{startOf, bump, eatEol}
 use Rattle.cursor.specs.Checks.{eat, expect}
-use Rattle.cursor.specs.Attempts.{attempt}
+use Rattle.cursor.specs.Attempts.{tryParse}
 use Rattle.types.specs.declared.items.Items.{Items}
 use Rattle.types.specs.Items.{close, pair, so}
 use Rattle.types.proofs.TypePaths.{starts}
 use Rattle.parts.specs.Values.{rowWith}
 use Rattle.rules.specs.Inner.{Inner, expr}
 use Rattle.parts.specs.Records.{listRecord, blockRecord}
-use Rattle.parts.specs.Recovery.{undo}
+use Rattle.parts.specs.Recovery.{undone}
 use Rattle.parts.specs.Steps.{itemsEnd, litKey, parenKey}
 use Rattle.parts.specs.Until.{untilTurn, itemsUntil}
 use Rattle.rules.specs.Tables.{key, property, item, itemsOf, table, braceBlock, tableOrBlock, brace}
@@ -131,7 +131,7 @@ module _ (r : Inner) where
         brace-empty a = rw p (rw q (rw a))
 
         module _ {s3 : State} {w3 : World} (a : eat (r .sheet) kind.CloseBrace s2 w2 ≡ done s3 w3 false) {inside : ℕ} (f : inside ≡ startOf (rangeAt (r .sheet .tokens) (s3 .at))) where
-          opened : brace r from s w ≡ attempt (key r) (table r from inside) (braceBlock r from inside) s3 w3
+          opened : brace r from s w ≡ tryParse (key r) (table r from inside) (braceBlock r from inside) s3 w3
           unfolding brace tableOrBlock
           opened = rw p (rw q (rw a (rw (starts (r .sheet) s3 w3 f))))
 
@@ -139,14 +139,14 @@ module _ (r : Inner) where
           brace-table b = opened ∙ attempts.kept _ _ _ _ _ b
 
           module _ {x : Stop} (b : key r s3 w3 ≡ failed x) where
-            pub brace-refused : {y : Stop} → undo s3 x ≡ failed y → brace r from s w ≡ failed y
+            pub brace-refused : {y : Stop} → undone s3 x ≡ failed y → brace r from s w ≡ failed y
             brace-refused c = opened ∙ attempts.lost _ _ _ _ _ b c
 
-            module _ {s4 : State} {w4 : World} (c : undo s3 x ≡ done s4 w4 tt) where
-              pub brace-failed : {y : Stop} → r .body kind.CloseBrace s4 w4 ≡ failed y → brace r from s w ≡ failed y
+            module _ {s4 : State} {w4 : World} (c : undone s3 x ≡ done s4 w4 tt) where
+              pub brace-failed : {y : Stop} → r .exprs kind.CloseBrace s4 w4 ≡ failed y → brace r from s w ≡ failed y
               unfolding braceBlock
-              brace-failed d = opened ∙ attempts.undone _ _ _ _ _ b c ∙ rw d
+              brace-failed d = opened ∙ attempts.starts-over _ _ _ _ _ b c ∙ rw d
 
-              pub brace-block : {row : Kids} {s5 : State} {w5 : World} → r .body kind.CloseBrace s4 w4 ≡ done s5 w5 row → brace r from s w ≡ blockRecord inside node.ExprBlock from row s5 w5
+              pub brace-block : {row : Kids} {s5 : State} {w5 : World} → r .exprs kind.CloseBrace s4 w4 ≡ done s5 w5 row → brace r from s w ≡ blockRecord inside node.ExprBlock from row s5 w5
               unfolding braceBlock
-              brace-block d = opened ∙ attempts.undone _ _ _ _ _ b c ∙ rw d
+              brace-block d = opened ∙ attempts.starts-over _ _ _ _ _ b c ∙ rw d

@@ -18,10 +18,11 @@ use Rattle.cursor.specs.Rule.{World, Rule, ifSo}
 use Rattle.cursor.proofs.Ends.{Ends, well, Any, then, weaken, both}
 use Rattle.cursor.proofs.Loops.{left, Takes}
 use Rattle.cursor.proofs.TokenPaths.{there}
-use Rattle.cursor.proofs.Keeps.{ground-stands, gives, binds, thens}
+use Rattle.cursor.proofs.Keeps.{Plain, ground-stands, gives, binds, thens}
 use Rattle.cursor.proofs.Kept.{eat-keeps, eat-range-keeps, eat-eol-keeps}
+use Rattle.cursor.proofs.Chosen.{each}
 use Rattle.cursor.proofs.Spends.{Spends, Feeds, Further, takes, always, spares, feeds, either-spends, first-spends, first-feeds, then-spends, if-spends}
-use Rattle.cursor.proofs.Spent.{Found, bump-feeds, eat-spends, expect-spends, eat-range-spends, pick-spends, unexpected-spends}
+use Rattle.cursor.proofs.Spent.{Found, bump-feeds, eat-spends, expect-spends, eat-range-spends, choose-spends, unexpected-spends}
 use Rattle.types.specs.Items.{isEnded}
 use Rattle.parts.specs.declared.values.Expr.{Expr}
 use Rattle.parts.specs.Values.{linkOf, rowOf}
@@ -30,17 +31,21 @@ use Rattle.parts.specs.Steps.{noMember}
 use Rattle.parts.proofs.UntilPaths.{until-takes}
 use Rattle.parts.specs.Until.{untilTurn}
 use Rattle.rules.specs.Tables.{item}
-use Rattle.rules.specs.Primary.{memberChain, access, postfixTurn}
+use Rattle.rules.specs.Primary.{memberCases, access, postfixTurn}
 use Rattle.rules.specs.Atoms.{caseTurn}
 use Rattle.rules.specs.Precedence.{handlerTurn, infixBy, infixTurn}
 use Rattle.rules.specs.Statements.{leftOf, leftTurn, rightTurn}
 use Rattle.rules.specs.Levels.{levels}
 use Rattle.rules.proofs.Stays.{add-stays, Stays, expr-stays}
-use Rattle.rules.proofs.RecordStays.{call-record-stays, member-record-stays, braced-stays}
-use Rattle.rules.proofs.ExprStays.{block-starts, item-stays, member-opens, call-stays, match-case-starts, handler-turn-starts, operated-stays}
+use Rattle.rules.proofs.RecordStays.{call-record-stays, braced-stays}
+use Rattle.rules.proofs.ExprStays.{block-starts, item-stays, members-open, call-stays, match-case-starts, handler-turn-starts, operated-stays}
 use Rattle.rules.proofs.StmtStays.{left-of-stays, knot-stays}
 
 -- one rule or the other, where a token stands
+-- where a token is taken whatever the answer is
+feeds-always : {A : Type 0} {e : Sheet} {W : A → Type 0} {r : Rule A} → Feeds e Plain r → Feeds e W r
+feeds-always x = record { ends = λ s w h. weaken (x .ends s w h) (λ s1 w1 a f _. f tt) (λ _ _ _ _. tt) }
+
 pub either-feeds : {A : Type 0} {e : Sheet} {W : A → Type 0} {r q : Rule A} (b : Bool) → Feeds e W r → Feeds e W q → Feeds e W (ifSo r q b)
 either-feeds true x y = x
 either-feeds false x y = y
@@ -73,9 +78,7 @@ module _ {r : Inner} (h : Stays r) where
   access-spends : (from : ℕ) (x : Expr) → Spends (r .sheet) Further (access r from x)
   unfolding access
   access-spends from x =
-      then-spends (eat-range-keeps (r .sheet) kind.Question) (λ safe. pick-spends memberChain refl
-      (λ i _. either-feeds (ltb 2 i) (feeds (no-member-spends safe x)) (first-feeds (member-opens h i .feeds) (λ link. member-record-stays from safe i x link)))
-      (no-member-spends safe x))
+      then-spends (eat-range-keeps (r .sheet) kind.Question) (λ safe. choose-spends (memberCases r from safe x) refl (each (λ _ o. feeds-always (o .feeds)) _ (members-open h from safe x)) (no-member-spends safe x))
 
   pub postfix-spends : (from : ℕ) (lambda : Bool) (x : Expr) → Spends (r .sheet) Further (postfixTurn r from lambda x)
   unfolding postfixTurn

@@ -2,79 +2,66 @@
 use Prim.Native.Nat.{ℕ}
 use mathlib.Core.List.{List, [], _∷_}
 use mathlib.Core.Bool.{Bool, true, false}
-use lib.Dec.{ltb, eqb}
 use Rattle.kinds.specs.Number as kind
 use Rattle.cursor.specs.declared.Kids.{Kids}
 use Rattle.cursor.specs.declared.Ranged.the-variants as ranged
 use Rattle.cursor.specs.Node as node
 use Rattle.cursor.specs.Rule.{Rule, _>>=_, _>>_, give, ifSo, more, stop, Turn, iterate}
 use Rattle.cursor.specs.Tokens.{bump, eatEol}
-use Rattle.cursor.specs.Checks.{check, eat, expect, pick}
-use Rattle.cursor.specs.Records.{add, noKids, flagged}
+use Rattle.cursor.specs.Checks.{check, eat, expect, Case, _⇒_, choose}
+use Rattle.cursor.specs.Records.{noLink, add, noKids, flagged}
 use Rattle.types.specs.Lits.{lit, ident}
-use Rattle.types.specs.Items.{start, close}
+use Rattle.types.specs.Items.{start, close, over}
 use Rattle.parts.specs.declared.values.Expr.{Expr}
-use Rattle.parts.specs.Forms as forms
-use Rattle.parts.specs.Values.{atomExpr, rowOf}
+use Rattle.parts.specs.declared.values.Expr.the-variants as exprs
+use Rattle.parts.specs.Values.{rowOf}
 use Rattle.rules.specs.Inner.{Inner, expr}
-use Rattle.parts.specs.When.{when}
-use Rattle.parts.specs.Records.{rowRecord, listRecord, fnRecord, ifRecord, roundRecord}
-use Rattle.parts.specs.Steps.{leaf, loopNames, casePatterns}
-use Rattle.rules.specs.Blocks.{block, andBlock}
+use Rattle.parts.specs.Records.{rowRecord, listRecord, fnRecord, ifRecord}
+use Rattle.parts.specs.Steps.{Elements, names, casePatterns}
+use Rattle.rules.specs.Blocks.{block, exprAndBlock}
 use Rattle.rules.specs.Functions.{function}
 use Rattle.rules.specs.Tables.{itemsOf, brace}
 use Rattle.rules.specs.Primary.{primaryOf}
 
--- the chain of parse_expr_atom
-abbrev pub atomChain : List ℕ
-atomChain =
-    kind.OpenParen
-    ∷ kind.Ident
-    ∷ kind.OpenBrace
-    ∷ kind.OpenBracket
-    ∷ kind.Fn
-    ∷ kind.VBar
-    ∷ kind.Do
-    ∷ kind.If
-    ∷ kind.Match
-    ∷ kind.Loop
-    ∷ kind.While
-    ∷ kind.For
-    ∷ kind.Break
-    ∷ kind.Continue
-    ∷ kind.Return
-    ∷ []
-
 module _ (r : Inner) where
-  -- an expression in parentheses, a list, and `return` with its argument
-  unfoldable pub group : ℕ → ℕ → Rule ℕ
-  group from which = do
+  -- an expression in parentheses, a list, `return` with its argument
+  unfoldable pub parenExpr : ℕ → Rule ℕ
+  parenExpr from = do
     bump (r .sheet)
-    when (eqb which forms.OpenBracket) (do
-      i ← itemsOf r 1 noKids
-      listRecord node.List from i) (do
-        link ← expr r true
-        when (eqb which forms.Return) (close node.Return from 0 0 0 link) (do
-          expect (r .sheet) kind.CloseParen
-          close node.Paren from 0 0 0 link))
+    link ← expr r true
+    expect (r .sheet) kind.CloseParen
+    over node.Paren from link
 
-  -- the function of `do`
-  unfoldable pub doFunction : ℕ → Rule ℕ
-  doFunction from = do
-    body ← block r 0
-    close node.Do from 0 0 0 body
-
-  -- the function without a name: `fn`, a closure or `do`
-  unfoldable pub anonFunction : ℕ → ℕ → Rule ℕ
-  anonFunction from which = when (eqb which forms.VBar) (function r from true) (do
+  unfoldable pub listExpr : ℕ → Rule ℕ
+  listExpr from = do
     bump (r .sheet)
-    when (eqb which forms.Fn) (function r from false) (doFunction from))
+    i ← itemsOf r Elements noKids
+    listRecord node.List from i
 
-  -- the expression over it
-  unfoldable pub anon : ℕ → ℕ → Rule ℕ
-  anon from which = do
-    f ← anonFunction from which
-    fnRecord from ranged.Nowhere 0 f
+  unfoldable pub returnExpr : ℕ → Rule ℕ
+  returnExpr from = do
+    bump (r .sheet)
+    link ← expr r true
+    over node.Return from link
+
+  -- a function without a name, a closure and `do`, each as the function of the expression Fn
+  unfoldable pub fnExpr : ℕ → Rule ℕ
+  fnExpr from = do
+    bump (r .sheet)
+    f ← function r from false
+    fnRecord from ranged.Nowhere noLink f
+
+  unfoldable pub closureExpr : ℕ → Rule ℕ
+  closureExpr from = do
+    f ← function r from true
+    fnRecord from ranged.Nowhere noLink f
+
+  unfoldable pub doExpr : ℕ → Rule ℕ
+  doExpr from = do
+    bump (r .sheet)
+    body ← block r node.None
+    f ← over node.Do from body
+    fnRecord from ranged.Nowhere noLink f
 
   -- what stands behind `else`: another `if`, where trailing lambdas are taken again, or a block
   unfoldable pub alternate : Rule ℕ
@@ -82,15 +69,15 @@ module _ (r : Inner) where
     again ← check (r .sheet) kind.If
     ifSo (expr r true) (block r node.ExprBlock) again
 
-  unfoldable pub ifElse : ℕ → Rule ℕ
-  ifElse from = do
+  unfoldable pub ifExpr : ℕ → Rule ℕ
+  ifExpr from = do
     bump (r .sheet)
-    kids ← andBlock r noKids
+    kids ← exprAndBlock r noKids
     other ← eat (r .sheet) kind.Else
     ifSo (do
       a ← alternate
       ifRecord from kids a)
-        (ifRecord from kids 0) other
+        (ifRecord from kids noLink) other
 
   -- parse_match_case
   unfoldable pub matchCase : Rule ℕ
@@ -113,8 +100,8 @@ module _ (r : Inner) where
           longer ← add kids c
           give (more longer)) closed
 
-  unfoldable pub cases : ℕ → Rule ℕ
-  cases from = do
+  unfoldable pub matchExpr : ℕ → Rule ℕ
+  matchExpr from = do
     bump (r .sheet)
     link ← expr r false
     expect (r .sheet) kind.OpenBrace
@@ -122,38 +109,72 @@ module _ (r : Inner) where
     close node.Match from 0 0 (flagged (row .count) 0 false false) (row .first)
 
   -- `loop`, `while` and `for`
-  unfoldable pub loops : ℕ → ℕ → Rule ℕ
-  loops from which = do
+  unfoldable pub loopExpr : ℕ → Rule ℕ
+  loopExpr from = do
     bump (r .sheet)
-    when (eqb which forms.Loop) (do
-      body ← block r 0
-      close node.Loop from 0 0 0 body) (do
-        names ← loopNames (r .sheet) which
-        kids ← andBlock r names
-        roundRecord from which (names .count) kids)
+    body ← block r node.None
+    over node.Loop from body
 
-  -- the forms of an atom, in the order of the chain: `fn`, a closure and `do` come before `if`, the loops before `break`, and it and `continue` before
-  -- `return`; otherwise a literal
-  unfoldable pub form : ℕ → ℕ → Rule ℕ
-  form from which =
-      when (eqb which forms.OpenParen) (group from which)
-      (when (eqb which forms.Ident) (ident (r .sheet))
-      (when (eqb which forms.OpenBrace) (brace r from)
-      (when (eqb which forms.OpenBracket) (group from which)
-      (when (ltb which forms.If) (anon from which)
-      (when (eqb which forms.If) (ifElse from)
-      (when (eqb which forms.Match) (cases from)
-      (when (ltb which forms.Break) (loops from which)
-      (when (ltb which forms.Return) (leaf (r .sheet) from which)
-      (when (eqb which forms.Return) (group from which) (lit (r .sheet)))))))))))
+  unfoldable pub whileExpr : ℕ → Rule ℕ
+  whileExpr from = do
+    bump (r .sheet)
+    kids ← exprAndBlock r noKids
+    over node.While from (kids .first)
 
-  -- parse_expr_atom
+  unfoldable pub forExpr : ℕ → Rule ℕ
+  forExpr from = do
+    bump (r .sheet)
+    row ← names (r .sheet)
+    expect (r .sheet) kind.In
+    kids ← exprAndBlock r row
+    close node.For from 0 0 (flagged (row .count) 0 false false) (kids .first)
+
+  -- `break` and `continue`
+  unfoldable pub breakExpr : ℕ → Rule ℕ
+  breakExpr from = do
+    bump (r .sheet)
+    over node.Break from noLink
+
+  unfoldable pub continueExpr : ℕ → Rule ℕ
+  continueExpr from = do
+    bump (r .sheet)
+    over node.Continue from noLink
+
+  -- an atom that is a plain name, and one that is not
+  abbrev pub name : Rule ℕ → Rule Expr
+  name read = do
+    link ← read
+    give (exprs.Name link)
+
+  abbrev pub other : Rule ℕ → Rule Expr
+  other read = do
+    link ← read
+    give (exprs.Other link)
+
+  -- parse_expr_atom: the forms of an atom, each by the kind that it begins with; otherwise a literal
+  abbrev pub atomCases : ℕ → List (Case Expr)
+  atomCases from =
+      kind.OpenParen ⇒ other (parenExpr from)
+      ∷ kind.Ident ⇒ name (ident (r .sheet))
+      ∷ kind.OpenBrace ⇒ other (brace r from)
+      ∷ kind.OpenBracket ⇒ other (listExpr from)
+      ∷ kind.Fn ⇒ other (fnExpr from)
+      ∷ kind.VBar ⇒ other (closureExpr from)
+      ∷ kind.Do ⇒ other (doExpr from)
+      ∷ kind.If ⇒ other (ifExpr from)
+      ∷ kind.Match ⇒ other (matchExpr from)
+      ∷ kind.Loop ⇒ other (loopExpr from)
+      ∷ kind.While ⇒ other (whileExpr from)
+      ∷ kind.For ⇒ other (forExpr from)
+      ∷ kind.Break ⇒ other (breakExpr from)
+      ∷ kind.Continue ⇒ other (continueExpr from)
+      ∷ kind.Return ⇒ other (returnExpr from)
+      ∷ []
+
   unfoldable pub atom : Rule Expr
   atom = do
     from ← start (r .sheet)
-    which ← pick (r .sheet) atomChain
-    link ← form from which
-    give (atomExpr which link)
+    choose (r .sheet) (atomCases from) (other (lit (r .sheet)))
 
   -- parse_expr_primary
   unfoldable pub primary : Bool → Rule Expr

@@ -3,6 +3,7 @@ use Prim.Native.Nat.{ℕ}
 use mathlib.Core.Bool.{false}
 use Rattle.kinds.specs.Number as kind
 use Rattle.cursor.specs.declared.Kids.{Kids}
+use Rattle.cursor.specs.Node as node
 use Rattle.cursor.specs.Rule.{Rule, _>>=_, _>>_}
 use Rattle.cursor.specs.Checks.{expect}
 use Rattle.cursor.specs.Records.{add}
@@ -16,13 +17,13 @@ module _ (r : Inner) where
   block wrap = do
     expect (r .sheet) kind.OpenBrace
     from ← start (r .sheet)
-    row ← r .body kind.CloseBrace
+    row ← r .exprs kind.CloseBrace
     blockRecord from wrap from row
 
   -- parse_expr_and_block: no trailing lambda is taken; both join a row
-  unfoldable pub andBlock : Kids → Rule Kids
-  andBlock kids = do
+  unfoldable pub exprAndBlock : Kids → Rule Kids
+  exprAndBlock kids = do
     link ← expr r false
-    body ← block 0
+    body ← block node.None
     one ← add kids link
     add one body

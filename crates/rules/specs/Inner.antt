@@ -11,9 +11,9 @@ use Rattle.parts.specs.Values.{linkOf}
 -- a level of operators on, with or without trailing lambdas (parse_expr_precedence), a type atom and a pattern
 pub record Inner : Type 0 where
   pub sheet : Sheet
-  pub body : ℕ → Rule Kids
+  pub exprs : ℕ → Rule Kids
   pub prec : ℕ → Bool → Rule Expr
-  pub atom : Rule ℕ
+  pub typeAtom : Rule ℕ
   pub pattern : Rule ℕ
 
 -- parse_expr_with_option; parse_expr is the same with true. Its answer is the link alone

@@ -15,23 +15,23 @@ use Rattle.parts.specs.declared.values.Expr.{Expr}
 use Rattle.parts.specs.declared.values.Left.{Left}
 use Rattle.rules.specs.Inner.{Inner}
 use Rattle.rules.specs.Precedence.{precedence}
-use Rattle.rules.specs.Body.{body}
+use Rattle.rules.specs.Exprs.{exprs}
 
 -- the two rules of this crate that use up a level
 pub record Knot : Type 0 where
-  pub body : ℕ → Rule Kids
+  pub exprs : ℕ → Rule Kids
   pub prec : ℕ → Bool → Rule Expr
 
 -- what the rules are handed that have so many levels left
 abbrev pub within : Sheet → ℕ → Knot → Inner
-within e d k = record { sheet = e; body = k .body; prec = k .prec; atom = atoms e d; pattern = patterns e d }
+within e d k = record { sheet = e; exprs = k .exprs; prec = k .prec; typeAtom = atoms e d; pattern = patterns e d }
 
 abbrev pub tie : Inner → Knot
-tie r = record { body = body r; prec = precedence r }
+tie r = record { exprs = exprs r; prec = precedence r }
 
 -- with so many levels left: 9 where none is
 unfoldable pub knot : Sheet → ℕ → Knot
-knot e zero = record { body = λ end. refuse 9; prec = λ min lambda. refuse 9 }
+knot e zero = record { exprs = λ end. refuse 9; prec = λ min lambda. refuse 9 }
 knot e (suc d) = tie (within e d (knot e d))
 
 abbrev pub levels : Sheet → ℕ → Inner
@@ -49,5 +49,5 @@ programRecord from row s w = append (record { kind = node.Program; start = from;
 unfoldable pub program : Inner → Rule ℕ
 program r = do
   from ← start (r .sheet)
-  row ← r .body kind.Eof
+  row ← r .exprs kind.Eof
   programRecord from row

@@ -4,7 +4,8 @@ pub mod Functions
 pub mod Tables
 pub mod Primary
 pub mod Atoms
+pub mod Placed
 pub mod Precedence
 pub mod Statements
-pub mod Body
+pub mod Exprs
 pub mod Levels

@@ -13,7 +13,7 @@ use Rattle.cursor.specs.Node as node
 use Rattle.cursor.specs.Sheet.{kindAt, rangeAt}
 use Rattle.cursor.specs.Rule.{Rule, _>>=_, _>>_, give, ifSo, Next, more, stop, Turn, iterate}
 use Rattle.cursor.specs.Tokens.{bump}
-use Rattle.cursor.specs.Checks.{check, expect, pick}
+use Rattle.cursor.specs.Checks.{check, expect, Case, _⇒_, choose}
 use Rattle.cursor.specs.Records.{add}
 use Rattle.types.specs.Lits.{ident}
 use Rattle.types.specs.Items.{start, close}
@@ -29,10 +29,6 @@ use Rattle.parts.specs.Steps.{alone, typeCheck}
 use Rattle.rules.specs.Blocks.{block}
 use Rattle.rules.specs.Atoms.{primary}
 
--- the chain of parse_expr_unary
-abbrev pub unaryChain : List ℕ
-unaryChain = kind.Not ∷ kind.Sub ∷ kind.Try ∷ []
-
 module _ (r : Inner) where
   -- a handler of a `try`
   unfoldable pub handler : Rule ℕ
@@ -40,8 +36,8 @@ module _ (r : Inner) where
     from ← start (r .sheet)
     expect (r .sheet) kind.With
     name ← ident (r .sheet)
-    i ← params (r .sheet) (r .atom) (rowOf name)
-    body ← block r 0
+    i ← params (r .sheet) (r .typeAtom) (rowOf name)
+    body ← block r node.None
     handlerRecord from i body
 
   -- handlers in a row, as long as another `with` stands behind one
@@ -69,19 +65,25 @@ module _ (r : Inner) where
     triedBy (spanOf (rangeAt (r .sheet .tokens) (s .at))) x) s w
 
   -- `not` and `-` take a primary; their token's kind is the operator's
-  unfoldable pub negated : ℕ → Bool → Rule Expr
-  negated from lambda s w = (do
+  unfoldable pub unaryOp : ℕ → Bool → Rule Expr
+  unaryOp from lambda s w = (do
     bump (r .sheet)
     x ← primary r lambda
     link ← close node.Unary from (kindAt (r .sheet .tokens) (s .at)) 0 0 (linkOf x)
     give (exprs.Other link)) s w
 
   -- parse_expr_unary
+  abbrev pub unaryCases : ℕ → Bool → List (Case Expr)
+  unaryCases from lambda =
+      kind.Not ⇒ unaryOp from lambda
+      ∷ kind.Sub ⇒ unaryOp from lambda
+      ∷ kind.Try ⇒ tried lambda
+      ∷ []
+
   unfoldable pub unary : Bool → Rule Expr
   unary lambda = do
     from ← start (r .sheet)
-    which ← pick (r .sheet) unaryChain
-    when (eqb which 2) (tried lambda) (when (ltb 2 which) (primary r lambda) (negated from lambda))
+    choose (r .sheet) (unaryCases from lambda) (primary r lambda)
 
   -- behind an operator: a right operand that starts one level higher; behind `is` one token
   unfoldable pub operated : ℕ → Bool → Expr → ℕ → ℕ → Rule (Next Expr)

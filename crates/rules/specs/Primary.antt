@@ -2,57 +2,69 @@
 use Prim.Native.Nat.{ℕ}
 use mathlib.Core.List.{List, [], _∷_}
 use mathlib.Core.Bool.{Bool, true}
-use lib.Dec.{ltb}
 use Rattle.kinds.specs.Number as kind
+use Rattle.cursor.specs.declared.Ranged.{Ranged}
 use Rattle.cursor.specs.Node as node
 use Rattle.cursor.specs.Rule.{Rule, _>>=_, _>>_, give, ifSo, Next, Turn, iterate}
 use Rattle.cursor.specs.Tokens.{bump}
-use Rattle.cursor.specs.Checks.{eat, expect, eatRange, pick}
+use Rattle.cursor.specs.Checks.{eat, expect, eatRange, Case, _⇒_, choose}
+use Rattle.cursor.specs.Records.{noLink}
 use Rattle.types.specs.Lits.{ident}
 use Rattle.types.specs.Items.{start}
 use Rattle.parts.specs.declared.values.Expr.{Expr}
+use Rattle.parts.specs.Members as members
 use Rattle.parts.specs.Values.{linkOf, rowOf}
 use Rattle.rules.specs.Inner.{Inner, expr}
-use Rattle.parts.specs.When.{when}
 use Rattle.parts.specs.Records.{callRecord, memberRecord}
-use Rattle.parts.specs.Steps.{braced, noMember, metaEnd}
+use Rattle.parts.specs.Steps.{Arguments, braced, noMember}
 use Rattle.rules.specs.Blocks.{block}
 use Rattle.rules.specs.Tables.{itemsOf}
 
--- the chain of a member's opening tokens
-abbrev pub memberChain : List ℕ
-memberChain = kind.OpenBracket ∷ kind.Dot ∷ kind.DoubleColon ∷ []
-
 module _ (r : Inner) where
-  -- the macro member_expr: what stands behind the opening token; no link for `#`
-  unfoldable pub member : ℕ → Rule ℕ
-  member which = do
+  -- the macro member_expr, from the opening token on: the member's kind with a property and with `#`, how the property is read, and what closes it
+  abbrev pub memberExpr : ℕ → Ranged → Expr → ℕ → ℕ → Rule ℕ → Rule Unit → Rule (Next Expr)
+  memberExpr from safe x named meta property closing = do
     bump (r .sheet)
-    meta ← eat (r .sheet) kind.Pound
-    ifSo (metaEnd (r .sheet) which)
-        (when (ltb 0 which) (ident (r .sheet)) (do
-          link ← expr r true
-          expect (r .sheet) kind.CloseBracket
-          give link)) meta
+    pound ← eat (r .sheet) kind.Pound
+    ifSo (do
+      closing
+      memberRecord from safe meta x noLink)
+        (do
+          link ← property
+          closing
+          memberRecord from safe named x link) pound
+
+  unfoldable pub bracketMember : ℕ → Ranged → Expr → Rule (Next Expr)
+  bracketMember from safe x = memberExpr from safe x members.Bracket members.BracketMeta (expr r true) (expect (r .sheet) kind.CloseBracket)
+
+  unfoldable pub dotMember : ℕ → Ranged → Expr → Rule (Next Expr)
+  dotMember from safe x = memberExpr from safe x members.Dot members.DotMeta (ident (r .sheet)) (give tt)
+
+  unfoldable pub doubleColonMember : ℕ → Ranged → Expr → Rule (Next Expr)
+  doubleColonMember from safe x = memberExpr from safe x members.DoubleColon members.DoubleColonMeta (ident (r .sheet)) (give tt)
 
   -- a member, where one stands here; a `?` needs one
+  abbrev pub memberCases : ℕ → Ranged → Expr → List (Case (Next Expr))
+  memberCases from safe x =
+      kind.OpenBracket ⇒ bracketMember from safe x
+      ∷ kind.Dot ⇒ dotMember from safe x
+      ∷ kind.DoubleColon ⇒ doubleColonMember from safe x
+      ∷ []
+
   unfoldable pub access : ℕ → Expr → Rule (Next Expr)
   access from x = do
     safe ← eatRange (r .sheet) kind.Question
-    which ← pick (r .sheet) memberChain
-    when (ltb 2 which) (noMember (r .sheet) safe x) (do
-      link ← member which
-      memberRecord from safe which x link)
+    choose (r .sheet) (memberCases from safe x) (noMember (r .sheet) safe x)
 
   -- a call from behind its opening parenthesis on, with a trailing lambda where one is allowed and stands there
   unfoldable pub call : ℕ → Bool → Expr → Rule (Next Expr)
   call from lambda x = do
-    i ← itemsOf r 0 (rowOf (linkOf x))
+    i ← itemsOf r Arguments (rowOf (linkOf x))
     trailing ← braced (r .sheet) lambda
     ifSo (do
       closure ← block r node.Closure
       callRecord from (i .kids) closure)
-        (callRecord from (i .kids) 0) trailing
+        (callRecord from (i .kids) noLink) trailing
 
   -- one call or member more, where one stands here
   unfoldable pub postfixTurn : ℕ → Bool → Turn Expr

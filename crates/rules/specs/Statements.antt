@@ -2,7 +2,6 @@
 use Prim.Native.Nat.{ℕ}
 use mathlib.Core.List.{List, [], _∷_}
 use mathlib.Core.Bool.{true, false}
-use lib.ListN.{getD}
 use lib.Dec.{ltb, eqb}
 use Rattle.kinds.specs.Number as kind
 use Rattle.cursor.specs.declared.Kids.{Kids}
@@ -12,9 +11,9 @@ use Rattle.cursor.specs.Node as node
 use Rattle.cursor.specs.Sheet.{rangeAt}
 use Rattle.cursor.specs.Rule.{Rule, _>>=_, _>>_, give, ifSo, Next, more, stop, Turn, iterate}
 use Rattle.cursor.specs.Tokens.{bump}
-use Rattle.cursor.specs.Checks.{check, expect, eatRange, pick, unexpected}
+use Rattle.cursor.specs.Checks.{check, expect, eatRange, Case, _⇒_, choose, unexpected}
 use Rattle.cursor.specs.Records.{add, flagged}
-use Rattle.cursor.specs.Attempts.{attempt}
+use Rattle.cursor.specs.Attempts.{tryParse}
 use Rattle.types.specs.Items.{start, close, pair}
 use Rattle.types.specs.Types.{type, named, typedIdent}
 use Rattle.parts.specs.declared.values.Expr.{Expr}
@@ -25,20 +24,10 @@ use Rattle.parts.specs.Values.{linkOf, toAssignLeft, rowWith, uncounted}
 use Rattle.rules.specs.Inner.{Inner, expr}
 use Rattle.parts.specs.When.{when, failWith}
 use Rattle.parts.specs.Records.{couple, rowRecord}
-use Rattle.parts.specs.Steps.{alone, operatorOf}
-use Rattle.rules.specs.Functions.{fnStmt}
+use Rattle.parts.specs.Steps.{alone, noOperator, operatorOf}
+use Rattle.rules.specs.Functions.{namedFunction}
 use Rattle.parts.specs.Effects.{effectStmt}
 use Rattle.parts.specs.Imports.{importStmt}
-
--- the chains of parse_stmt: at its start, behind `glo`, and behind an expression
-abbrev pub stmtChain : List ℕ
-stmtChain = kind.Import ∷ kind.Effect ∷ kind.Glo ∷ []
-
-abbrev pub gloChain : List ℕ
-gloChain = kind.Fn ∷ kind.Effect ∷ []
-
-abbrev pub signChain : List ℕ
-signChain = kind.Comma ∷ kind.Colon ∷ kind.Assign ∷ kind.AddAssign ∷ kind.SubAssign ∷ kind.MulAssign ∷ kind.DivAssign ∷ kind.RemAssign ∷ []
 
 module _ (r : Inner) where
   -- the right side of an assignment, behind its sign
@@ -51,23 +40,23 @@ module _ (r : Inner) where
   unfoldable pub setTo : ℕ → ℕ → AssignLeft → Rule ℕ
   setTo from sign (assigns.To link) = do
     bump (r .sheet)
-    when (eqb sign kind.Assign) (right from node.Assign 0 link) (right from node.AssignOp (operatorOf sign) link)
+    when (eqb sign kind.Assign) (right from node.Assign noOperator link) (right from node.AssignOp (operatorOf sign) link)
   setTo from sign assigns.Nothing = unexpected (r .sheet)
 
   unfoldable pub set : ℕ → ℕ → Expr → Rule ℕ
   set from sign x = setTo from sign (toAssignLeft x)
 
   -- an assignment to a name with a type: a Colon after anything but a plain name is an error
-  unfoldable pub typed : ℕ → Expr → Rule ℕ
-  typed from (exprs.Name name) = do
+  unfoldable pub typedAssign : ℕ → Expr → Rule ℕ
+  typedAssign from (exprs.Name name) = do
     bump (r .sheet)
-    t ← type (r .sheet) (r .atom)
+    t ← type (r .sheet) (r .typeAtom)
     link ← pair node.TypedIdent from name t
     expect (r .sheet) kind.Assign
-    right from node.Assign 0 link
-  typed from (exprs.NameMember link) = unexpected (r .sheet)
-  typed from (exprs.Call link called) = unexpected (r .sheet)
-  typed from (exprs.Other link) = unexpected (r .sheet)
+    right from node.Assign noOperator link
+  typedAssign from (exprs.NameMember link) = unexpected (r .sheet)
+  typedAssign from (exprs.Call link called) = unexpected (r .sheet)
+  typedAssign from (exprs.Other link) = unexpected (r .sheet)
 
   -- one left side more behind its comma; an error for one that may not be assigned to is at that comma and lists nothing
   unfoldable pub leftOf : Ranged → Kids → Rule (Next Kids)
@@ -118,41 +107,63 @@ module _ (r : Inner) where
   unfoldable pub multi : ℕ → Expr → Rule ℕ
   multi from x = multiTo from (toAssignLeft x)
 
-  -- an expression, or the assignment that it begins
+  -- an expression, or the assignment that it begins, by the sign behind it
+  abbrev pub signCases : ℕ → Expr → List (Case ℕ)
+  signCases from x =
+      kind.Comma ⇒ multi from x
+      ∷ kind.Colon ⇒ typedAssign from x
+      ∷ kind.Assign ⇒ set from kind.Assign x
+      ∷ kind.AddAssign ⇒ set from kind.AddAssign x
+      ∷ kind.SubAssign ⇒ set from kind.SubAssign x
+      ∷ kind.MulAssign ⇒ set from kind.MulAssign x
+      ∷ kind.DivAssign ⇒ set from kind.DivAssign x
+      ∷ kind.RemAssign ⇒ set from kind.RemAssign x
+      ∷ []
+
   unfoldable pub assign : ℕ → Rule ℕ
   assign from = do
     x ← r .prec 1 true
-    which ← pick (r .sheet) signChain
-    when (eqb which 0) (multi from x) (when (eqb which 1) (typed from x) (when (ltb 7 which) (give (linkOf x)) (set from (getD signChain which 0) x)))
+    choose (r .sheet) (signCases from x) (give (linkOf x))
 
   -- behind `glo`: a function, an effect, or an assignment to a name
-  unfoldable pub gloBy : ℕ → Ranged → ℕ → Rule ℕ
-  gloBy from here which = when (eqb which 0) (fnStmt r from here) (when (eqb which 1) (effectStmt (r .sheet) (r .atom) from here) (do
-    name ← typedIdent (r .sheet) (named (r .sheet) (r .atom) false)
+  unfoldable pub gloAssign : ℕ → Rule ℕ
+  gloAssign from = do
+    left ← typedIdent (r .sheet) (named (r .sheet) (r .typeAtom) false)
     expect (r .sheet) kind.Assign
-    right from node.GloAssign 0 name))
+    right from node.GloAssign noOperator left
+
+  abbrev pub gloCases : ℕ → Ranged → List (Case ℕ)
+  gloCases from here =
+      kind.Fn ⇒ namedFunction r from here
+      ∷ kind.Effect ⇒ effectStmt (r .sheet) (r .typeAtom) from here
+      ∷ []
 
   unfoldable pub glo : ℕ → Rule ℕ
   glo from s w = (do
     bump (r .sheet)
-    which ← pick (r .sheet) gloChain
-    gloBy from (rangeAt (r .sheet .tokens) (s .at)) which) s w
+    choose (r .sheet) (gloCases from (rangeAt (r .sheet .tokens) (s .at))) (gloAssign from)) s w
 
   -- a statement that is no named function
+  abbrev pub stmtCases : ℕ → List (Case ℕ)
+  stmtCases from =
+      kind.Import ⇒ importStmt (r .sheet) from
+      ∷ kind.Effect ⇒ effectStmt (r .sheet) (r .typeAtom) from ranged.Nowhere
+      ∷ kind.Glo ⇒ glo from
+      ∷ []
+
   unfoldable pub plain : Rule ℕ
   plain = do
     from ← start (r .sheet)
-    which ← pick (r .sheet) stmtChain
-    when (eqb which 0) (importStmt (r .sheet) from) (when (eqb which 1) (effectStmt (r .sheet) (r .atom) from ranged.Nowhere) (when (eqb which 2) (glo from) (assign from)))
+    choose (r .sheet) (stmtCases from) (assign from)
 
-  -- a named function at `fn`
+  -- parse_function_stmt
   unfoldable pub functionStmt : Rule ℕ
   functionStmt = do
     from ← start (r .sheet)
-    fnStmt r from ranged.Nowhere
+    namedFunction r from ranged.Nowhere
 
   -- parse_stmt: a statement at `fn` is attempted as a named function, then read as any other
   unfoldable pub stmt : Rule ℕ
   stmt = do
     here ← check (r .sheet) kind.Fn
-    ifSo (attempt functionStmt give plain) plain here
+    ifSo (tryParse functionStmt give plain) plain here

@@ -1,4 +1,4 @@
--- Lists of items, and what `{` opens where an expression may begin: parse_items_until, parse_table_key_and_colon, parse_table_property.
+-- Lists of items by the name of their rule, and what `{` opens where an expression may begin: parse_table_key_and_colon, parse_table_property.
 use Prim.Native.Nat.{ℕ}
 use mathlib.Core.Bool.{true}
 use lib.Dec.{eqb}
@@ -8,15 +8,16 @@ use Rattle.cursor.specs.Node as node
 use Rattle.cursor.specs.Rule.{Rule, _>>=_, _>>_, ifSo}
 use Rattle.cursor.specs.Tokens.{bump, eatEol}
 use Rattle.cursor.specs.Checks.{eat, expect}
-use Rattle.cursor.specs.Attempts.{attempt}
+use Rattle.cursor.specs.Records.{noLink}
+use Rattle.cursor.specs.Attempts.{tryParse}
 use Rattle.types.specs.declared.items.Items.{Items}
-use Rattle.types.specs.Items.{start, close, pair}
+use Rattle.types.specs.Items.{start, close, over, pair}
 use Rattle.parts.specs.Values.{rowWith}
 use Rattle.parts.specs.Until.{itemsUntil}
 use Rattle.rules.specs.Inner.{Inner, expr}
 use Rattle.parts.specs.When.{when}
 use Rattle.parts.specs.Records.{listRecord, blockRecord}
-use Rattle.parts.specs.Steps.{itemsEnd, litKey, parenKey}
+use Rattle.parts.specs.Steps.{Properties, itemsEnd, litKey, parenKey}
 
 module _ (r : Inner) where
   -- parse_table_key_and_colon: a literal or an expression in parentheses
@@ -37,12 +38,12 @@ module _ (r : Inner) where
     value ← expr r true
     pair node.TableProperty from name value
 
-  -- the item rules by number: 0 an argument, 1 an element, 2 a property
+  -- an item by the name of its rule: an argument and an element are expressions
   unfoldable pub item : ℕ → Rule ℕ
-  item k = when (eqb k 2) property (expr r true)
+  item rule = when (eqb rule Properties) property (expr r true)
 
   unfoldable pub itemsOf : ℕ → Kids → Rule Items
-  itemsOf k kids = itemsUntil (r .sheet) (item k) (itemsEnd k) kids
+  itemsOf rule kids = itemsUntil (r .sheet) (item rule) (itemsEnd rule) kids
 
   -- a table from behind its first key and colon on
   unfoldable pub table : ℕ → ℕ → ℕ → Rule ℕ
@@ -54,20 +55,20 @@ module _ (r : Inner) where
     ifSo (close node.Table from 0 0 1 link)
         (do
           expect (r .sheet) kind.Comma
-          i ← itemsOf 2 (rowWith link)
+          i ← itemsOf Properties (rowWith link)
           listRecord node.Table from i) closed
 
   -- a block where an expression may begin: its record starts behind the brace and Eols, the expression's at the brace
   unfoldable pub braceBlock : ℕ → ℕ → Rule ℕ
   braceBlock from inside = do
-    row ← r .body kind.CloseBrace
+    row ← r .exprs kind.CloseBrace
     blockRecord inside node.ExprBlock from row
 
   -- a key and its colon are attempted; where there is none it is a block
   unfoldable pub tableOrBlock : ℕ → Rule ℕ
   tableOrBlock from = do
     inside ← start (r .sheet)
-    attempt key (table from inside) (braceBlock from inside)
+    tryParse key (table from inside) (braceBlock from inside)
 
   -- `{` where an expression may begin: `{`, Eols, `}` is a table
   unfoldable pub brace : ℕ → Rule ℕ
@@ -75,4 +76,4 @@ module _ (r : Inner) where
     bump (r .sheet)
     eatEol (r .sheet)
     closed ← eat (r .sheet) kind.CloseBrace
-    ifSo (close node.Table from 0 0 0 0) (tableOrBlock from) closed
+    ifSo (over node.Table from noLink) (tableOrBlock from) closed

@@ -3,7 +3,7 @@ use Prim.Native.Nat.{ℕ, zero, suc, _+_, _*_}
 use native.Mathlib.Omega.{arith}
 use mathlib.Core.Path.{_≡_, refl}
 use mathlib.Core.List.{List, [], _∷_, _++_}
-use borrow.Author.Tests.{leb-true}
+use borrow.Author.Tests.{ltb-true}
 use lib.ListN.{replicate}
 use Rattle.kinds.specs.Number as kind
 use Rattle.kinds.specs.Kinds.{isTrivia}
@@ -13,7 +13,7 @@ use Rattle.entry.specs.declared.Entry.the-variants.{Fit}
 use Rattle.entry.specs.Check.{entryOf}
 use Rattle.grammar.specs.Places.{Token, Place, kindOf, spanOf, after, tokensOf, significant, before, opening}
 use Rattle.grammar.specs.Symbols.{Form, Name, Other, Atom}
-use Rattle.grammar.specs.Derives.{Derives, no-eol, an-ident, body-of, last-stmt, plain, expr-of, group, name}
+use Rattle.grammar.specs.Derives.{Derives, no-eol, an-ident, exprs-of, last-stmt, expr-stmt, expr-of, paren-expr, name}
 use Rattle.grammar.specs.Shape.{shape}
 use Rattle.grammar.specs.Follows.{Follows, treeOf}
 use Rattle.grammar.specs.Words.{among}
@@ -52,7 +52,7 @@ place prev ts = record { prev = prev; rest = ts }
 unfoldable nested : {text : List ℕ} (n i prev : ℕ) (ts : List Token) → Derives text (Atom (formOf n)) (place prev (nest n i ts)) (place (ends n i) ts)
 unfolding nest kindOf after among levelOf binaryOf
 nested zero i prev ts = name (an-ident (takes refl refl))
-nested (suc n) i prev ts = group (takes refl refl) (expr-of (alone (nested n (i + 1) (i + 1) (closing n i ∷ ts)) (free refl) (other refl) (leb-true _ _ refl))) (takes refl refl)
+nested (suc n) i prev ts = paren-expr (takes refl refl) (expr-of (alone (nested n (i + 1) (i + 1) (closing n i ∷ ts)) (free refl) (other refl) (ltb-true _ _ refl))) (takes refl refl)
 
 -- each pair of parentheses is one level
 nested-need : (text : List ℕ) (n i prev : ℕ) (ts : List Token) → need (nested {text = text} n i prev ts) ≡ n
@@ -73,11 +73,11 @@ tokensIn n = spelt (nest n 0 [])
 
 unfoldable sixty-two : Follows (textOf 62) (tokensIn 62)
 unfolding nest before tokensOf significant isTrivia kindOf after among levelOf binaryOf
-sixty-two = record { end = _; body = body-of (no-eol (other refl)) (last-stmt (plain (alone (nested 62 0 0 []) (free refl) (other refl) (leb-true _ _ refl)) (free refl)) (takes refl refl)); whole = refl }
+sixty-two = record { end = _; body = exprs-of (no-eol (other refl)) (last-stmt (expr-stmt (alone (nested 62 0 0 []) (free refl) (other refl) (ltb-true _ _ refl)) (free refl)) (takes refl refl)); whole = refl }
 
 unfoldable sixty-three : Follows (textOf 63) (tokensIn 63)
 unfolding nest before tokensOf significant isTrivia kindOf after among levelOf binaryOf
-sixty-three = record { end = _; body = body-of (no-eol (other refl)) (last-stmt (plain (alone (nested 63 0 0 []) (free refl) (other refl) (leb-true _ _ refl)) (free refl)) (takes refl refl)); whole = refl }
+sixty-three = record { end = _; body = exprs-of (no-eol (other refl)) (last-stmt (expr-stmt (alone (nested 63 0 0 []) (free refl) (other refl) (ltb-true _ _ refl)) (free refl)) (takes refl refl)); whole = refl }
 
 sixty-two-fit : entryOf (textOf 62) (tokensIn 62) ≡ Fit
 unfolding nest of-kinds of-entry

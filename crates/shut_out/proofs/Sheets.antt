@@ -2,7 +2,7 @@
 use Prim.Native.Nat.{ℕ, _*_}
 use mathlib.Core.Path.{_≡_, refl}
 use mathlib.Core.List.{List, [], _∷_}
-use borrow.Author.Tests.{leb-true}
+use borrow.Author.Tests.{ltb-true}
 use lib.ListN.{replicate}
 use Rattle.kinds.specs.Number as kind
 use Rattle.kinds.specs.Spelling.{bytes}
@@ -11,7 +11,7 @@ use Rattle.kinds.specs.Operators.{binaryOf, levelOf}
 use Rattle.entry.specs.declared.Entry.the-variants.{Fit}
 use Rattle.entry.specs.Check.{entryOf}
 use Rattle.grammar.specs.Places.{kindOf, after, tokensOf, significant, before}
-use Rattle.grammar.specs.Derives.{no-eol, an-ident, body-of, last-stmt, a-line, plain, name}
+use Rattle.grammar.specs.Derives.{no-eol, an-ident, exprs-of, last-stmt, a-line, expr-stmt, name}
 use Rattle.grammar.specs.Follows.{Follows}
 use Rattle.grammar.specs.Words.{among}
 use Rattle.grammar.proofs.Tests.{takes, other, free}
@@ -35,8 +35,8 @@ unfolding before tokensOf significant isTrivia kindOf after among levelOf binary
 two = record {
   end = _;
   body =
-      body-of (no-eol (other refl)) (a-line (plain (alone (name (an-ident (takes refl refl))) (free refl) (other refl) (leb-true _ _ refl)) (free refl)) (takes refl refl) (no-eol (other refl))
-      (last-stmt (plain (alone (name (an-ident (takes refl refl))) (free refl) (other refl) (leb-true _ _ refl)) (free refl)) (takes refl refl)));
+      exprs-of (no-eol (other refl)) (a-line (expr-stmt (alone (name (an-ident (takes refl refl))) (free refl) (other refl) (ltb-true _ _ refl)) (free refl)) (takes refl refl) (no-eol (other refl))
+      (last-stmt (expr-stmt (alone (name (an-ident (takes refl refl))) (free refl) (other refl) (ltb-true _ _ refl)) (free refl)) (takes refl refl)));
   whole = refl;
 }
 

@@ -2,7 +2,6 @@
 -- answered leads to a record made since the mark, and so does the last child of a row; hence nothing is linked behind a record below it.
 use mathlib.Core.Bool.{Bool}
 use Prim.Native.Nat.{ℕ, zero, suc}
-use lib.Dec.{eqb}
 use Rattle.cursor.specs.declared.State.{State}
 use Rattle.cursor.specs.declared.Kids.{Kids}
 use Rattle.cursor.specs.declared.Fault.{Fault}
@@ -14,7 +13,7 @@ use Rattle.cursor.specs.Rule.{Rule, _>>=_, give, ifSo, more, stop}
 use Rattle.cursor.specs.Records.{add}
 use Rattle.cursor.proofs.Ends.{ill}
 use Rattle.cursor.proofs.Keeps.{Mark, Keeps, Plain, Nexts, went-refl, gives, ifs, binds, thens, loops}
-use Rattle.cursor.proofs.Kept.{bump-keeps, eat-keeps, expect-keeps, unexpected-keeps, eat-eol-keeps, append-keeps, add-keeps, Mine, nothing, Fresh, RowFor, fresh-mine}
+use Rattle.cursor.proofs.Kept.{bump-keeps, eat-keeps, unexpected-keeps, eat-eol-keeps, append-keeps, add-keeps, Mine, nothing, Fresh, RowFor, fresh-mine}
 use Rattle.types.specs.declared.items.Items.{Items}
 use Rattle.types.specs.Items.{close, addSome, oneItem}
 use Rattle.types.proofs.ItemKeeps.{ItemsFor, after-item-keeps, ident-keeps}
@@ -26,7 +25,7 @@ use Rattle.parts.specs.Values.{linkOf, memberOf}
 use Rattle.parts.specs.When.{failWith}
 use Rattle.parts.specs.Until.{untilTurn, itemsUntil}
 use Rattle.parts.specs.Records.{couple, rowRecord, wrapped, blockRecord, fnRecord, functionRecord, handlerRecord, ifRecord, callRecord, memberRecord}
-use Rattle.parts.specs.Steps.{checkedType, nameTurn, names, loopNames, patternTurn, casePatterns, typeChecked, typeCheckAt, typeCheck}
+use Rattle.parts.specs.Steps.{checkedType, nameTurn, names, patternTurn, casePatterns, typeChecked, typeCheckAt, typeCheck}
 
 -- an expression whose record was made since the mark; handlers may still join a Call's row
 abbrev pub ExprFor : Mark → Expr → Type 0
@@ -106,9 +105,9 @@ module _ {m : Mark} where
   unfolding callRecord
   call-record-keeps from kids lambda h g = binds (adds-some _ _ h g) (λ all j. binds (closes _ _ _ _ _ _) (λ link f. gives (f, j)))
 
-  pub member-record-keeps : (from : ℕ) (safe : Ranged) (which : ℕ) (x : Expr) (link : ℕ) → ExprFor m x → Mine m link → Keeps m (Nexts (ExprFor m)) (memberRecord from safe which x link)
+  pub member-record-keeps : (from : ℕ) (safe : Ranged) (k : ℕ) (x : Expr) (link : ℕ) → ExprFor m x → Mine m link → Keeps m (Nexts (ExprFor m)) (memberRecord from safe k x link)
   unfolding memberRecord
-  member-record-keeps from safe which x link g h = binds (adds _ _ nothing (link-fresh m x g)) (λ one j. binds (adds-some _ _ j h) (λ all _. binds (closes _ _ _ _ _ _) (λ own f. gives (member-fresh m x safe own f))))
+  member-record-keeps from safe k x link g h = binds (adds _ _ nothing (link-fresh m x g)) (λ one j. binds (adds-some _ _ j h) (λ all _. binds (closes _ _ _ _ _ _) (λ own f. gives (member-fresh m x safe own f))))
 
   -- one more in a row, as long as a test behind it holds
   pub joins : (rule : Rule ℕ) (again : Rule Bool) (kids : Kids) → Keeps m (Fresh m) rule → Keeps m Plain again → RowFor m kids → Keeps m (Nexts (RowFor m)) (rule >>= (λ link. add kids link >>= (λ longer. again >>= (λ b. ifSo (give (more longer)) (give (stop longer)) b))))
@@ -116,9 +115,9 @@ module _ {m : Mark} where
 
   -- steps
   module _ (e : Sheet) where
-    pub loop-names-keep : (which : ℕ) → Keeps m (RowFor m) (loopNames e which)
-    unfolding loopNames names nameTurn
-    loop-names-keep which = ifs (eqb which 10) (gives nothing) (binds (loops (λ kids h. joins _ _ kids (ident-keeps _) (eat-keeps _ _) h) e nothing) (λ kids h. thens (expect-keeps _ _) (gives h)))
+    pub names-keep : Keeps m (RowFor m) (names e)
+    unfolding names nameTurn
+    names-keep = loops (λ kids h. joins _ _ kids (ident-keeps _) (eat-keeps _ _) h) e nothing
 
     pub case-patterns-keep : (pattern : Rule ℕ) → Keeps m (Fresh m) pattern → Keeps m (RowFor m) (casePatterns e pattern)
     unfolding casePatterns patternTurn

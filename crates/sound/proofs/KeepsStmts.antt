@@ -11,8 +11,9 @@ use Rattle.cursor.specs.declared.Ranged.the-variants as ranged
 use Rattle.cursor.specs.Sheet.{Sheet}
 use Rattle.cursor.specs.Rule.{Rule, _>>=_}
 use Rattle.cursor.specs.Checks.{unexpectedAt}
+use Rattle.cursor.proofs.Chosen.{all, _&_}
 use Rattle.cursor.proofs.Keeps.{Mark, mark, Keeps, Plain, Nexts, gives, refuses, ifs, plain, binds, thens, attempts, loops}
-use Rattle.cursor.proofs.Kept.{bump-keeps, check-keeps, eat-keeps, expect-keeps, eat-range-keeps, unexpected-keeps, pick-keeps, eat-eol-keeps, log-keeps, recovers, Mine, nothing, Fresh, RowFor, fresh-mine}
+use Rattle.cursor.proofs.Kept.{bump-keeps, check-keeps, eat-keeps, expect-keeps, eat-range-keeps, unexpected-keeps, chooses, eat-eol-keeps, log-keeps, recovers, Mine, nothing, Fresh, RowFor, fresh-mine}
 use Rattle.types.proofs.ItemKeeps.{start-keeps, pair-keeps, ident-keeps}
 use Rattle.types.proofs.TypeKeeps.{type-keeps, typed-keeps, params-keep, returns-keeps, atoms-keep}
 use Rattle.types.proofs.PatternKeeps.{patterns-keep}
@@ -24,12 +25,12 @@ use Rattle.parts.specs.declared.values.AssignLeft.the-variants as assigns
 use Rattle.parts.specs.declared.imports.Imported.{Imported}
 use Rattle.parts.specs.Values.{toAssignLeft}
 use Rattle.parts.specs.Effects.{effectRecord, effectStmt}
-use Rattle.parts.specs.Imports.{importItem, importItems, importEnd, importTail, pathTurn, importStmt}
-use Rattle.parts.specs.Recovery.{skipTurn, skip, skipped, logHere, lineEnd, afterStmt}
+use Rattle.parts.specs.Imports.{importItem, importItems, importSimple, importAlias, importNested, importGlob, endCases, tailCases, importEnd, importTail, pathTurn, importStmt}
+use Rattle.parts.specs.Recovery.{skipCases, skipTurn, skip, skipped, logHere, lineEnd, afterStmt}
 use Rattle.rules.specs.Inner.{Inner}
 use Rattle.rules.specs.Tables.{key}
-use Rattle.rules.specs.Statements.{right, setTo, set, typed, leftOf, leftTurn, lefts, rightTurn, rights, multiTo, multi, assign, gloBy, glo, plain as plain-rule, functionStmt, stmt}
-use Rattle.rules.specs.Body.{stmtOr, bodyTurn, body}
+use Rattle.rules.specs.Statements.{right, setTo, set, typedAssign, leftOf, leftTurn, lefts, rightTurn, rights, multiTo, multi, signCases, assign, gloAssign, gloCases, glo, stmtCases, plain as plain-rule, functionStmt, stmt}
+use Rattle.rules.specs.Exprs.{stmtOr, exprsTurn, exprs as exprs-rule}
 use Rattle.rules.specs.Levels.{knot, levels}
 use Rattle.sound.proofs.KeepsRow.{ExprFor, link-fresh, fails, closes, adds, adds-some, begins, couple-keeps, row-record-keeps, until-keeps}
 use Rattle.sound.proofs.KeepsExprs.{Guards, expr-keeps, fn-stmt-keeps, key-keeps as key-guards, precedence-keeps}
@@ -56,12 +57,12 @@ module _ {m : Mark} (e : Sheet) where
   import-item-keeps = binds (start-keeps _) (λ from _. binds (ident-keeps _) (λ name f. binds (eat-keeps _ _) (λ other _. ifs other (binds (ident-keeps _) (λ alias g. binds (adds _ _ nothing f) (λ one h. binds (adds _ _ h g) (λ two _. closes _ _ _ _ _ _)))) (closes _ _ _ _ _ _))))
 
   import-end-keeps : (kids : Kids) → RowFor m kids → Keeps m (Nexts (ImportFor m)) (importEnd e kids)
-  unfolding importEnd
-  import-end-keeps kids h = binds (pick-keeps _ _ 0) (λ which _. ifs (eqb which 0) (gives h) (ifs (ltb 1 which) (unexpected-keeps _) (thens (bump-keeps _) (binds (ident-keeps _) (λ alias f. binds (adds _ _ h f) (λ longer g. gives g))))))
+  unfolding importEnd importSimple importAlias
+  import-end-keeps kids h = chooses e (endCases e kids) (gives h & thens (bump-keeps _) (binds (ident-keeps _) (λ alias f. binds (adds _ _ h f) (λ longer g. gives g))) & all) (unexpected-keeps _)
 
   import-tail-keeps : (kids : Kids) → RowFor m kids → Keeps m (Nexts (ImportFor m)) (importTail e kids)
-  unfolding importTail importItems
-  import-tail-keeps kids h = binds (pick-keeps _ _ 0) (λ which _. ifs (ltb 1 which) (unexpected-keeps _) (thens (bump-keeps _) (ifs (eqb which 1) (gives h) (binds (until-keeps e _ kind.CloseBrace _ import-item-keeps h) (λ i g. gives g)))))
+  unfolding importTail importNested importGlob importItems
+  import-tail-keeps kids h = chooses e (tailCases e kids) (thens (bump-keeps _) (binds (until-keeps e _ kind.CloseBrace _ import-item-keeps h) (λ i g. gives g)) & thens (bump-keeps _) (gives h) & all) (unexpected-keeps _)
 
   path-keeps : (i : Imported) → ImportFor m i → Keeps m (Nexts (ImportFor m)) (pathTurn e i)
   unfolding pathTurn
@@ -81,7 +82,7 @@ module _ {m : Mark} (e : Sheet) where
   -- recovery
   skipped-keeps : (end : ℕ) → Keeps m (Mine m) (skipped e end)
   unfolding skipped skip skipTurn
-  skipped-keeps end = thens (loops {I = Plain} (λ _ _. binds (pick-keeps _ _ 0) (λ which _. ifs (ltb which 3) (gives tt) (thens (bump-keeps _) (gives tt)))) e tt) (gives nothing)
+  skipped-keeps end = thens (loops {I = Plain} (λ _ _. chooses e (skipCases e end) (gives tt & gives tt & gives tt & all) (thens (bump-keeps _) (gives tt))) e tt) (gives nothing)
 
   after-keeps : (end : ℕ) (kids : Kids) (link : ℕ) → RowFor m kids → Mine m link → Keeps m (Nexts (RowFor m)) (afterStmt e end kids link)
   unfolding afterStmt logHere lineEnd
@@ -111,9 +112,9 @@ module _ {m : Mark} {r : Inner} (h : Guards m r) where
   set-keeps from sign (assigns.To link) f = thens (bump-keeps _) (ifs (eqb sign kind.Assign) (right-keeps _ _ _ _ f) (right-keeps _ _ _ _ f))
   set-keeps from sign assigns.Nothing f = unexpected-keeps _
 
-  typed-assign-keeps : (from : ℕ) (x : Expr) → ExprFor m x → Keeps m (Fresh m) (typed r from x)
-  unfolding typed
-  typed-assign-keeps from (exprs.Name name) f = thens (bump-keeps _) (binds (type-keeps (r .sheet) _ (h .atom)) (λ t g. binds (pair-keeps (r .sheet) _ from name t f g) (λ link j. thens (expect-keeps _ _) (right-keeps _ _ _ _ j))))
+  typed-assign-keeps : (from : ℕ) (x : Expr) → ExprFor m x → Keeps m (Fresh m) (typedAssign r from x)
+  unfolding typedAssign
+  typed-assign-keeps from (exprs.Name name) f = thens (bump-keeps _) (binds (type-keeps (r .sheet) _ (h .typeAtom)) (λ t g. binds (pair-keeps (r .sheet) _ from name t f g) (λ link j. thens (expect-keeps _ _) (right-keeps _ _ _ _ j))))
   typed-assign-keeps from (exprs.NameMember link) f = unexpected-keeps _
   typed-assign-keeps from (exprs.Call link called) f = unexpected-keeps _
   typed-assign-keeps from (exprs.Other link) f = unexpected-keeps _
@@ -137,16 +138,22 @@ module _ {m : Mark} {r : Inner} (h : Guards m r) where
 
   assign-keeps : (from : ℕ) → Keeps m (Fresh m) (assign r from)
   unfolding assign multi set
-  assign-keeps from = binds (h .prec 1 true) (λ x g. binds (pick-keeps _ _ 0) (λ which _. ifs (eqb which 0) (multi-keeps from _ (left-fresh m x g)) (ifs (eqb which 1) (typed-assign-keeps from x g) (ifs (ltb 7 which) (gives (link-fresh m x g)) (set-keeps from _ _ (left-fresh m x g))))))
+  assign-keeps from = binds (h .prec 1 true) (λ x g.
+      let sets : (sign : ℕ) → Keeps m (Fresh m) (set r from sign x) = λ sign. set-keeps from sign _ (left-fresh m x g) in
+      chooses (r .sheet) (signCases r from x) (multi-keeps from _ (left-fresh m x g) & typed-assign-keeps from x g & sets _ & sets _ & sets _ & sets _ & sets _ & sets _ & all) (gives (link-fresh m x g)))
 
   -- statements
+  glo-assign-keeps : (from : ℕ) → Keeps m (Fresh m) (gloAssign r from)
+  unfolding gloAssign
+  glo-assign-keeps from = binds (typed-keeps (r .sheet) _ (h .typeAtom) false) (λ name f. thens (expect-keeps _ _) (right-keeps _ _ _ _ f))
+
   glo-keeps : (from : ℕ) → Keeps m (Fresh m) (glo r from)
-  unfolding glo gloBy
-  glo-keeps from = begins (λ s. thens (bump-keeps _) (binds (pick-keeps _ _ 0) (λ which _. ifs (eqb which 0) (fn-stmt-keeps h from _) (ifs (eqb which 1) (effect-keeps (r .sheet) _ from _ (h .atom)) (binds (typed-keeps (r .sheet) _ (h .atom) false) (λ name f. thens (expect-keeps _ _) (right-keeps _ _ _ _ f)))))))
+  unfolding glo
+  glo-keeps from = begins (λ s. thens (bump-keeps _) (chooses (r .sheet) (gloCases r from _) (fn-stmt-keeps h from _ & effect-keeps (r .sheet) _ from _ (h .typeAtom) & all) (glo-assign-keeps from)))
 
   plain-keeps : Keeps m (Fresh m) (plain-rule r)
   unfolding plain-rule
-  plain-keeps = binds (start-keeps _) (λ from _. binds (pick-keeps _ _ 0) (λ which _. ifs (eqb which 0) (import-keeps (r .sheet) from) (ifs (eqb which 1) (effect-keeps (r .sheet) _ from _ (h .atom)) (ifs (eqb which 2) (glo-keeps from) (assign-keeps from)))))
+  plain-keeps = binds (start-keeps _) (λ from _. chooses (r .sheet) (stmtCases r from) (import-keeps (r .sheet) from & effect-keeps (r .sheet) _ from _ (h .typeAtom) & glo-keeps from & all) (assign-keeps from))
 
   function-guards : Keeps m (Fresh m) (functionStmt r)
   unfolding functionStmt
@@ -156,15 +163,15 @@ module _ {m : Mark} {r : Inner} (h : Guards m r) where
   unfolding stmt
   stmt-keeps = binds (check-keeps _ _) (λ here _. ifs here (attempts function-guards (λ link f. gives f) plain-keeps) plain-keeps)
 
-  body-keeps : (end : ℕ) → Keeps m (RowFor m) (body r end)
-  unfolding body bodyTurn stmtOr
+  body-keeps : (end : ℕ) → Keeps m (RowFor m) (exprs-rule r end)
+  unfolding exprs-rule exprsTurn stmtOr
   body-keeps end = thens (eat-eol-keeps _) (loops (λ kids g. binds (eat-keeps _ _) (λ closed _. ifs closed (gives g) (binds (recovers stmt-keeps (λ link f. gives (fresh-mine link f)) (skipped-keeps (r .sheet) end)) (λ link f. after-keeps (r .sheet) end kids link g f)))) (r .sheet) nothing)
 
 -- with any number of levels left
 pub knot-guards : {m : Mark} (e : Sheet) (d : ℕ) → Guards m (levels e d)
 unfolding knot
-knot-guards e zero = record { body = λ end. refuses; prec = λ min lambda. refuses; atom = atoms-keep e zero; pattern = patterns-keep e zero }
-knot-guards e (suc d) = record { body = body-keeps (knot-guards e d); prec = precedence-keeps (knot-guards e d); atom = atoms-keep e (suc d); pattern = patterns-keep e (suc d) }
+knot-guards e zero = record { exprs = λ end. refuses; prec = λ min lambda. refuses; typeAtom = atoms-keep e zero; pattern = patterns-keep e zero }
+knot-guards e (suc d) = record { exprs = body-keeps (knot-guards e d); prec = precedence-keeps (knot-guards e d); typeAtom = atoms-keep e (suc d); pattern = patterns-keep e (suc d) }
 
 -- the two rules that are attempted
 pub key-keeps : (e : Sheet) (d : ℕ) (s : State) → Keeps (mark s) Plain (key (levels e d))

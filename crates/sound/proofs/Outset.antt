@@ -13,7 +13,7 @@ use Rattle.cursor.specs.Sheet.{Sheet, count, kindAt, rangeAt}
 use Rattle.cursor.specs.Rule.{World, bind, _>>=_}
 use Rattle.cursor.specs.Tokens.{pastFrom, pastTrivia, startOf, eatTrivia, eatEol}
 use Rattle.types.specs.Items.{start}
-use Rattle.rules.specs.Body.{body}
+use Rattle.rules.specs.Exprs.{exprs}
 use Rattle.rules.specs.Levels.{knot, levels, programRecord, program}
 use Rattle.grammar.specs.Places.{tokensOf, before, opening}
 use Rattle.sound.proofs.Links.{view-settle, calm-settle, placeAt}
@@ -45,16 +45,16 @@ module _ (e : Sheet) where
   settled-at s = record { at = pastTrivia (e .tokens) (s .at); prev = s .prev; reads = s .reads; nodes = s .nodes; errors = s .errors; wanted = s .wanted; live = s .live }
 
   -- statements begin with passing trivia, so it is no matter that some were passed before
-  body-settles : (d end : ℕ) (s : State) (w : World) → body (levels e d) end s w ≡ body (levels e d) end (settled-at s) w
-  unfolding body eatEol eatTrivia
+  body-settles : (d end : ℕ) (s : State) (w : World) → exprs (levels e d) end s w ≡ exprs (levels e d) end (settled-at s) w
+  unfolding exprs eatEol eatTrivia
   body-settles d end s w = rw (calm-past (e .tokens) (pastTrivia (e .tokens) (s .at)) (calm-settle (e .tokens) (s .at))) refl
 
-  settles : (d end : ℕ) (s : State) (w : World) → levels e d .body end s w ≡ levels e d .body end (settled-at s) w
+  settles : (d end : ℕ) (s : State) (w : World) → levels e d .exprs end s w ≡ levels e d .exprs end (settled-at s) w
   unfolding knot
   settles zero end s w = refl
   settles (suc d) end s w = body-settles d end s w
 
-  pub program-is : (d : ℕ) (w : World) → program (levels e d) outset w ≡ (levels e d .body kind.Eof >>= (λ row. programRecord (opening (e .tokens)) row)) (settled-at outset) w
+  pub program-is : (d : ℕ) (w : World) → program (levels e d) outset w ≡ (levels e d .exprs kind.Eof >>= (λ row. programRecord (opening (e .tokens)) row)) (settled-at outset) w
   unfolding program start
   program-is d w = (λ i. bind (settles d kind.Eof outset w i) (λ s1 w1 row. programRecord (opening-is (e .tokens) i) row s1 w1))
 

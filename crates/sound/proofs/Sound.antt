@@ -34,7 +34,7 @@ use Rattle.cursor.specs.Sheet.{Sheet}
 use Rattle.cursor.specs.Rule.{World, Out, Rule, _>>=_, give, refuse, ifSo, Next, more, stop, Turn, next, turns, iterate}
 use Rattle.cursor.specs.Tokens.{rewind}
 use Rattle.cursor.specs.Records.{listLength, log}
-use Rattle.cursor.specs.Attempts.{attempt, unbuilt, recover}
+use Rattle.cursor.specs.Attempts.{tryParse, unbuilt, recover}
 use Rattle.cursor.proofs.Ends.{Ends, well, cut, branch, then, either, weaken, both}
 use Rattle.cursor.proofs.Loops.{left, Goes, on, off, Takes}
 use Rattle.cursor.proofs.Keeps.{mark, mark-stands, Keeps, Plain}
@@ -164,8 +164,8 @@ module _ (e : Sheet) where
     binds x y = record { ends = λ s w h. then (x .ends s w h) (λ s1 w1 f p. p) (λ s1 w1 a p. further p (y a .ends s1 w1 (p .came .calm))) }
 
     -- an attempt: what it keeps of the buffers is what the other rule finds
-    pub attempts : {Z : Claim B} {r : Rule A} {k : A → Rule B} {back : Rule B} → ((s : State) → Keeps (mark s) Plain r) → Sound X r → ((a : A) → Sound (Y a) (k a)) → Sound Z back → Sound (Else (Seq X Y) Z) (attempt r k back)
-    unfolding attempt rewind
+    pub attempts : {Z : Claim B} {r : Rule A} {k : A → Rule B} {back : Rule B} → ((s : State) → Keeps (mark s) Plain r) → Sound X r → ((a : A) → Sound (Y a) (k a)) → Sound Z back → Sound (Else (Seq X Y) Z) (tryParse r k back)
+    unfolding tryParse rewind
     attempts kept x y z = record {
       ends = λ s w h. either (both (x .ends s w h) (kept s .ends s w (mark-stands s)))
           (λ s1 w1 a p. weaken (further (p .0) (y a .ends s1 w1 (p .0 .came .calm))) (λ s2 w2 b q. record { came = q .came; fact = λ u. stayed (q .fact u) }) (λ s2 w2 f q. q))

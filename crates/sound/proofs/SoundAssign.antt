@@ -4,7 +4,7 @@ use mathlib.Core.List.{List, _∷_}
 use mathlib.Core.Bool.{Bool, true, false}
 use Prim.Native.Nat.{ℕ, suc, _+_, _*_, _^_, _<_, _≤_}
 use native.Mathlib.Omega.{arith}
-use lib.ListN.{getD, length}
+use lib.ListN.{length}
 use lib.Dec.{ltb, eqb}
 use Rattle.kinds.specs.Number as kind
 use Rattle.kinds.specs.Operators.{compoundOf}
@@ -28,16 +28,16 @@ use Rattle.parts.specs.Values.{linkOf, toAssignLeft, rowWith, uncounted}
 use Rattle.parts.specs.When.{when}
 use Rattle.parts.specs.Records.{couple as couple-rule, rowRecord}
 use Rattle.parts.specs.Steps.{operatorOf}
-use Rattle.rules.specs.Statements.{signChain, right, setTo, set, typed, rightTurn, rights, multiTo, multi as multi-rule, assign as assign-rule}
+use Rattle.rules.specs.Statements.{right, setTo, set, typedAssign, rightTurn, rights, multiTo, multi as multi-rule, signCases, assign as assign-rule}
 use Rattle.rules.specs.Levels.{levels}
 use Rattle.rules.proofs.Takes.{right-turn-takes}
 use Rattle.grammar.specs.Places.{Place, startOf, Tok, Here, from-none, from-all}
-use Rattle.grammar.specs.Symbols.{Form, Name, Assignable, a-name, a-member, Ty, Stmt, Lefts, Rights, Expr as Whole, Prec}
-use Rattle.grammar.specs.Derives.{Derives, Compound, adding, subtracting, multiplying, dividing, remaining, plain, assign, typed-assign, op-assign, unpack, multi}
+use Rattle.grammar.specs.Symbols.{Form, Assignable, a-name, a-member, Ty, Stmt, Lefts, Rights, Expr as Whole, Prec}
+use Rattle.grammar.specs.Derives.{Derives, Compound, adding, subtracting, multiplying, dividing, remaining, expr-stmt, assign, typed-assign, op-assign, unpack, multi}
 use Rattle.grammar.specs.Builders.{blank, only, more as longer, made, couple, rowBefore, severalOver}
 use Rattle.grammar.specs.Shape.{shape}
 use Rattle.sound.proofs.Sound.{Spot, at, Claim, Seq, _▸_, Gave, gave, If, Nothing, Star, spot, Sound, gives, maps, reads, ifs, binds, loops}
-use Rattle.sound.proofs.SoundSteps.{Bumped, bumped, Took, took, Saw, yes-saw, not-saw, Picked, none-of, this-one, later-one, Added, added-to, add-sound, bump-sound, check-sound, expect-sound, unexpected-sound, pick-sound}
+use Rattle.sound.proofs.SoundSteps.{Bumped, bumped, Took, took, Saw, yes-saw, not-saw, Way, this-one, later-one, Added, added-to, add-sound, bump-sound, check-sound, expect-sound, unexpected-sound, way, otherwise, chooses}
 use Rattle.sound.proofs.SoundValues.{Value, value, wrapped, joined, relabel, labelled, Closed, closed, Paired, paired, close-sound, pair-sound}
 use Rattle.sound.proofs.SoundItems.{sofar, as-shape, Rowed, listed, word-flags}
 use Rattle.sound.proofs.SoundNames.{Rowing}
@@ -90,9 +90,17 @@ module _ (e : Sheet) where
   MultiTo from assigns.Nothing = Nothing
 
   abbrev pub AssignOf : ℕ → Claim ℕ
-  AssignOf from = Seq (Expressed (e .text) (Prec 0 true)) (λ x. Seq (Picked signChain 0) (λ which. If (eqb which 0) (MultiTo from (toAssignLeft x)) (If (eqb which 1) (TypedOf from x) (If (ltb 7 which) (Gave (linkOf x)) (SetOf from (getD signChain which 0) x)))))
+  AssignOf from = Seq (Expressed (e .text) (Prec 1 true)) (λ x.
+      Way kind.Comma (MultiTo from (toAssignLeft x))
+      (Way kind.Colon (TypedOf from x)
+      (Way kind.Assign (SetOf from kind.Assign x)
+      (Way kind.AddAssign (SetOf from kind.AddAssign x)
+      (Way kind.SubAssign (SetOf from kind.SubAssign x)
+      (Way kind.MulAssign (SetOf from kind.MulAssign x)
+      (Way kind.DivAssign (SetOf from kind.DivAssign x)
+      (Way kind.RemAssign (SetOf from kind.RemAssign x) (Gave (linkOf x))))))))))
 
-  module _ (d : ℕ) (prec : (n : ℕ) (lambda : Bool) → Sound e (Expressed (e .text) (Prec n lambda)) (levels e d .prec (n + 1) lambda)) where
+  module _ (d : ℕ) (prec : (n : ℕ) (lambda : Bool) → Sound e (Expressed (e .text) (Prec (n + 1) lambda)) (levels e d .prec (n + 1) lambda)) where
     pub right-sound : (from k op link : ℕ) → Sound e (RightOf (e .text) k from op link) (right (levels e d) from k op link)
     unfolding right couple-rule
     right-sound from k op link = maps e (λ u v a c. go c) (binds e (expr-sound e d prec true) (λ val. binds e (add-sound e noKids link) (λ one. binds e (add-sound e one val) (λ two. close-sound e k from op 0 0 (two .first)))))
@@ -113,8 +121,8 @@ module _ (e : Sheet) where
         to (assigns.To link) = by link (eqb sign kind.Assign)
         to assigns.Nothing = unexpected-sound e
 
-    typed-sound : (from : ℕ) (x : Expr) → Sound e (TypedOf from x) (typed (levels e d) from x)
-    unfolding typed
+    typed-sound : (from : ℕ) (x : Expr) → Sound e (TypedOf from x) (typedAssign (levels e d) from x)
+    unfolding typedAssign
     typed-sound from (exprs.Name link) = binds e (bump-sound e) (λ _. binds e (types-sound e d) (λ t. binds e (pair-sound e node.TypedIdent from link t) (λ both. binds e (expect-sound e kind.Assign) (λ _. right-sound from node.Assign 0 both))))
     typed-sound from (exprs.NameMember link) = unexpected-sound e
     typed-sound from (exprs.Call link called) = unexpected-sound e
@@ -133,10 +141,18 @@ module _ (e : Sheet) where
 
     assign-of-sound : (from : ℕ) → Sound e (AssignOf from) (assign-rule (levels e d) from)
     unfolding assign-rule multi-rule
-    assign-of-sound from = binds e (prec 0 true) (λ x. binds e (pick-sound e signChain 0) (λ which. ifs e (eqb which 0) (multi-sound from (toAssignLeft x)) (ifs e (eqb which 1) (typed-sound from x) (ifs e (ltb 7 which) (gives e) (set-sound from (getD signChain which 0) x)))))
+    assign-of-sound from = binds e (prec 0 true) (λ x.
+        chooses e (signCases (levels e d) from x) (way e (multi-sound from (toAssignLeft x))
+        (way e (typed-sound from x)
+        (way e (set-sound from kind.Assign x)
+        (way e (set-sound from kind.AddAssign x)
+        (way e (set-sound from kind.SubAssign x)
+        (way e (set-sound from kind.MulAssign x)
+        (way e (set-sound from kind.DivAssign x)
+        (way e (set-sound from kind.RemAssign x) (otherwise e (gives e)))))))))))
 
   -- a first expression and what it begins
-  module _ {f : Form} {p q : Place} {n m a last : ℕ} {xs ys : List ℕ} {l : Label} {ks : Trees} (b : Derives (e .text) (Prec 0 true f) p q) (s : shape b 0 blank ≡ only (tree l ks)) (push : (es : List Entry) → Stack xs n es → Stack ys m (whole n a last l ks ∷ es)) where
+  module _ {f : Form} {p q : Place} {n m a last : ℕ} {xs ys : List ℕ} {l : Label} {ks : Trees} (b : Derives (e .text) (Prec 1 true f) p q) (s : shape b 0 blank ≡ only (tree l ks)) (push : (es : List Entry) → Stack xs n es → Stack ys m (whole n a last l ks ∷ es)) where
     assigned : {v : Spot} {c : ℕ} → Assignable f → Here kind.Assign q → Seq Bumped (λ _. RightOf (e .text) node.Assign (startOf p) 0 a) (at q m ys) v c → Value (e .text) Stmt (at p n xs) v c
     unfolding shape
     assigned h k (bumped t ▸ right-of {q = o} g y r) = value (assign b h (record { here = k .stands; next = t }) g) (λ i. couple node.Assign (startOf p) o (s i) (y i)) (λ es st. r _ _ es (as-row (push es st)))
@@ -196,7 +212,7 @@ module _ (e : Sheet) where
   by-left C (exprs.Other link) c n f = absurd (n c)
 
   module _ {p q : Place} {n m last : ℕ} {xs ys : List ℕ} {l : Label} {ks : Trees} where
-    typed-read : {v : Spot} {c : ℕ} (x : Expr) (b : Derives (e .text) (Prec 0 true (formOf x)) p q) → shape b 0 blank ≡ only (tree l ks) → ((es : List Entry) → Stack xs n es → Held ys m n last x l ks es) → Here kind.Colon q → TypedOf (startOf p) x (at q m ys) v c → Value (e .text) Stmt (at p n xs) v c
+    typed-read : {v : Spot} {c : ℕ} (x : Expr) (b : Derives (e .text) (Prec 1 true (formOf x)) p q) → shape b 0 blank ≡ only (tree l ks) → ((es : List Entry) → Stack xs n es → Held ys m n last x l ks es) → Here kind.Colon q → TypedOf (startOf p) x (at q m ys) v c → Value (e .text) Stmt (at p n xs) v c
     unfolding shape
     typed-read (exprs.Name link) b s g h (bumped t ▸ value d y k ▸ paired {p = r} j ▸ took o ▸ right-of {q = z} i u w) =
         value (typed-assign b (record { here = h .stands; next = t }) d o i) (λ i. couple node.Assign (startOf p) z (couple node.TypedIdent (startOf p) r (s i) (y i)) (u i)) (λ es st. w _ _ es (as-row (j _ _ _ _ _ _ es (k _ (as-row (g es st .stack))))))
@@ -204,42 +220,42 @@ module _ (e : Sheet) where
     typed-read (exprs.Call link called) b s g h c = absurd c
     typed-read (exprs.Other link) b s g h c = absurd c
 
-    multi-read : {v : Spot} {c : ℕ} (x : Expr) (b : Derives (e .text) (Prec 0 true (formOf x)) p q) → shape b 0 blank ≡ only (tree l ks) → ((es : List Entry) → Stack xs n es → Held ys m n last x l ks es) → 3 * length (p .rest) < 2 ^ 32 → Here kind.Comma q
+    multi-read : {v : Spot} {c : ℕ} (x : Expr) (b : Derives (e .text) (Prec 1 true (formOf x)) p q) → shape b 0 blank ≡ only (tree l ks) → ((es : List Entry) → Stack xs n es → Held ys m n last x l ks es) → 3 * length (p .rest) < 2 ^ 32 → Here kind.Comma q
         → MultiTo (startOf p) (toAssignLeft x) (at q m ys) v c → Value (e .text) Stmt (at p n xs) v c
     multi-read {v = v} {c = c} x b s g few h y = by-left (λ l. MultiTo (startOf p) l (at q m ys) v c) x y (λ z. z) (λ a z. go a z)
       where
         go : Assignable (formOf x) → Seq (Star (LeftTurn e) (rowWith (linkOf x))) (λ kids. BehindLefts (startOf p) kids) (at q m ys) v c → Value (e .text) Stmt (at p n xs) v c
         go a (r ▸ z) = several b s (λ es st. g es st .stack) few a h (lefts-read e r) z
 
-    compound-read : {v : Spot} {c k op : ℕ} → Compound k op → (x : Expr) (b : Derives (e .text) (Prec 0 true (formOf x)) p q) → shape b 0 blank ≡ only (tree l ks) → ((es : List Entry) → Stack xs n es → Held ys m n last x l ks es) → Here k q
+    compound-read : {v : Spot} {c k op : ℕ} → Compound k op → (x : Expr) (b : Derives (e .text) (Prec 1 true (formOf x)) p q) → shape b 0 blank ≡ only (tree l ks) → ((es : List Entry) → Stack xs n es → Held ys m n last x l ks es) → Here k q
         → SideTo node.AssignOp (startOf p) (operatorOf k) (toAssignLeft x) (at q m ys) v c → Value (e .text) Stmt (at p n xs) v c
     compound-read {v = v} {c = c} {op = op} z x b s g h y = by-left (λ l. SideTo node.AssignOp (startOf p) op l (at q m ys) v c) x kept (λ z. z) (λ a r. compounded b s (λ es st. g es st .stack) z a h r)
       where
         kept : SideTo node.AssignOp (startOf p) op (toAssignLeft x) (at q m ys) v c
         kept = subst (λ o. SideTo node.AssignOp (startOf p) o (toAssignLeft x) (at q m ys) v c) (operator-kept z) y
 
-    set-read : {v : Spot} {c : ℕ} (x : Expr) (b : Derives (e .text) (Prec 0 true (formOf x)) p q) → shape b 0 blank ≡ only (tree l ks) → ((es : List Entry) → Stack xs n es → Held ys m n last x l ks es) → Here kind.Assign q
+    set-read : {v : Spot} {c : ℕ} (x : Expr) (b : Derives (e .text) (Prec 1 true (formOf x)) p q) → shape b 0 blank ≡ only (tree l ks) → ((es : List Entry) → Stack xs n es → Held ys m n last x l ks es) → Here kind.Assign q
         → SideTo node.Assign (startOf p) 0 (toAssignLeft x) (at q m ys) v c → Value (e .text) Stmt (at p n xs) v c
     set-read {v = v} {c = c} x b s g h y = by-left (λ l. SideTo node.Assign (startOf p) 0 l (at q m ys) v c) x y (λ z. z) (λ a r. assigned b s (λ es st. g es st .stack) a h r)
 
   assign-read : {p : Place} {n a : ℕ} {xs : List ℕ} {v : Spot} → 3 * length (p .rest) < 2 ^ 32 → AssignOf (startOf p) (at p n xs) v a → Value (e .text) Stmt (at p n xs) v a
   unfolding shape
-  assign-read few (expressed {x = x} b s g ▸ this-one h ▸ c) = multi-read x b s g few h c
-  assign-read few (expressed {x = x} b s g ▸ later-one _ (this-one h) ▸ c) = typed-read x b s g h c
-  assign-read few (expressed {x = x} b s g ▸ later-one _ (later-one _ (this-one h)) ▸ c) = set-read x b s g h c
-  assign-read few (expressed {x = x} b s g ▸ later-one _ (later-one _ (later-one _ (this-one h))) ▸ c) = compound-read adding x b s g h c
-  assign-read few (expressed {x = x} b s g ▸ later-one _ (later-one _ (later-one _ (later-one _ (this-one h)))) ▸ c) = compound-read subtracting x b s g h c
-  assign-read few (expressed {x = x} b s g ▸ later-one _ (later-one _ (later-one _ (later-one _ (later-one _ (this-one h))))) ▸ c) = compound-read multiplying x b s g h c
-  assign-read few (expressed {x = x} b s g ▸ later-one _ (later-one _ (later-one _ (later-one _ (later-one _ (later-one _ (this-one h)))))) ▸ c) = compound-read dividing x b s g h c
-  assign-read few (expressed {x = x} b s g ▸ later-one _ (later-one _ (later-one _ (later-one _ (later-one _ (later-one _ (later-one _ (this-one h))))))) ▸ c) = compound-read remaining x b s g h c
-  assign-read few (expressed b s g ▸ later-one h0 (later-one h1 (later-one h2 (later-one h3 (later-one h4 (later-one h5 (later-one h6 (later-one h7 none-of))))))) ▸ gave) =
-      value (plain b (from-all h0 (from-all h1 (from-all h2 (from-all h3 (from-all h4 (from-all h5 (from-all h6 (from-all h7 from-none))))))))) s (λ es st. g es st .stack)
+  assign-read few (expressed {x = x} b s g ▸ this-one h c) = multi-read x b s g few h c
+  assign-read few (expressed {x = x} b s g ▸ later-one _ (this-one h c)) = typed-read x b s g h c
+  assign-read few (expressed {x = x} b s g ▸ later-one _ (later-one _ (this-one h c))) = set-read x b s g h c
+  assign-read few (expressed {x = x} b s g ▸ later-one _ (later-one _ (later-one _ (this-one h c)))) = compound-read adding x b s g h c
+  assign-read few (expressed {x = x} b s g ▸ later-one _ (later-one _ (later-one _ (later-one _ (this-one h c))))) = compound-read subtracting x b s g h c
+  assign-read few (expressed {x = x} b s g ▸ later-one _ (later-one _ (later-one _ (later-one _ (later-one _ (this-one h c)))))) = compound-read multiplying x b s g h c
+  assign-read few (expressed {x = x} b s g ▸ later-one _ (later-one _ (later-one _ (later-one _ (later-one _ (later-one _ (this-one h c))))))) = compound-read dividing x b s g h c
+  assign-read few (expressed {x = x} b s g ▸ later-one _ (later-one _ (later-one _ (later-one _ (later-one _ (later-one _ (later-one _ (this-one h c)))))))) = compound-read remaining x b s g h c
+  assign-read few (expressed b s g ▸ later-one h0 (later-one h1 (later-one h2 (later-one h3 (later-one h4 (later-one h5 (later-one h6 (later-one h7 gave)))))))) =
+      value (expr-stmt b (from-all h0 (from-all h1 (from-all h2 (from-all h3 (from-all h4 (from-all h5 (from-all h6 (from-all h7 from-none))))))))) s (λ es st. g es st .stack)
 
 -- a statement, where what it is said to start at is the start of what stands here
 pub data StmtFrom (text : List ℕ) (from : ℕ) : Spot → Spot → ℕ → Type 0 where
   stmt-from : {p : Place} {n a : ℕ} {xs : List ℕ} {v : Spot} → (from ≡ startOf p → Value text Stmt (at p n xs) v a) → StmtFrom text from (at p n xs) v a
 
-pub assign-sound : (e : Sheet) (d : ℕ) → ((n : ℕ) (lambda : Bool) → Sound e (Expressed (e .text) (Prec n lambda)) (levels e d .prec (n + 1) lambda)) → length (e .tokens) < 2 ^ 32 → (from : ℕ) → Sound e (StmtFrom (e .text) from) (assign-rule (levels e d) from)
+pub assign-sound : (e : Sheet) (d : ℕ) → ((n : ℕ) (lambda : Bool) → Sound e (Expressed (e .text) (Prec (n + 1) lambda)) (levels e d .prec (n + 1) lambda)) → length (e .tokens) < 2 ^ 32 → (from : ℕ) → Sound e (StmtFrom (e .text) from) (assign-rule (levels e d) from)
 assign-sound e d prec few from = record {
   ends = λ s w h. reads e (assign-of-sound e d prec from) h (λ v a c. stmt-from (λ q.
       let short = view-short (e .tokens) (s .at) in

@@ -1,9 +1,8 @@
 -- Statements in a row, with their recovery: parse_exprs; and blocks.
 use mathlib.Core.Path.{_≡_, refl, sym, ap}
-use mathlib.Core.List.{List, [], _∷_}
+use mathlib.Core.List.{List, _∷_}
 use mathlib.Core.Bool.{false}
 use Prim.Native.Nat.{ℕ, suc, _+_}
-use lib.Dec.{ltb}
 use Rattle.kinds.specs.Number as kind
 use Rattle.cursor.specs.declared.Kids.{Kids}
 use Rattle.cursor.specs.declared.Label.{Label}
@@ -17,20 +16,20 @@ use Rattle.cursor.proofs.Stack.{Entry, whole, Stack}
 use Rattle.cursor.proofs.Grows.{begin, as-row}
 use Rattle.types.specs.declared.items.Items.{Items as Row}
 use Rattle.parts.specs.Records.{blockRecord, wrapped as wrapped-rule}
-use Rattle.parts.specs.Recovery.{skipTurn, skip, skipped, logHere, lineEnd, afterStmt}
+use Rattle.parts.specs.Recovery.{skipCases, skipTurn, skip, skipped, logHere, lineEnd, afterStmt}
 use Rattle.parts.proofs.SkipTakes.{skip-takes}
 use Rattle.rules.specs.Blocks.{block}
-use Rattle.rules.specs.Body.{stmtOr, bodyTurn, body}
+use Rattle.rules.specs.Exprs.{stmtOr, exprsTurn, exprs}
 use Rattle.rules.specs.Statements.{stmt}
 use Rattle.rules.specs.Levels.{levels}
 use Rattle.rules.proofs.BodyTakes.{body-turn-takes}
 use Rattle.grammar.specs.Places.{Place, startOf, Tok}
-use Rattle.grammar.specs.Symbols.{Eols, Body, Stmts, Block, Stmt}
-use Rattle.grammar.specs.Derives.{Derives, body-of, no-stmt, last-stmt, a-line, block-of}
+use Rattle.grammar.specs.Symbols.{Eols, Exprs, Stmts, Block, Stmt}
+use Rattle.grammar.specs.Derives.{Derives, exprs-of, no-stmt, last-stmt, a-line, block-of}
 use Rattle.grammar.specs.Builders.{blank, only, more as longer, covered}
 use Rattle.grammar.specs.Shape.{shape}
 use Rattle.sound.proofs.Sound.{Spot, at, Claim, Seq, _▸_, Gave, gave, answer, not-both, If, Nothing, Star, halt, turn, Sound, gives, maps, ifs, binds, recovers, log-sound, loops}
-use Rattle.sound.proofs.SoundSteps.{Took, took, Ate, yes-ate, not-ate, Saw, yes-saw, not-saw, Lined, lined, bump-sound, check-sound, eat-sound, expect-sound, pick-sound, eat-eol-sound}
+use Rattle.sound.proofs.SoundSteps.{Took, took, Ate, yes-ate, not-ate, Saw, yes-saw, not-saw, Lined, lined, bump-sound, check-sound, eat-sound, expect-sound, way, otherwise, chooses, eat-eol-sound}
 use Rattle.sound.proofs.SoundValues.{Value, value, wrapped, joined, unlinked, relabel, Started, started, labelled, Closed, closed, SomeAdded, none-added, some-added, start-sound, close-sound, add-some-sound}
 use Rattle.sound.proofs.SoundItems.{sofar, as-shape, Listed, listed, word-more, word-flags}
 use Rattle.sound.proofs.SoundNames.{Rowing}
@@ -42,7 +41,7 @@ Whatever x y a = Unit {0}
 
 pub skipped-sound : (e : Sheet) (end : ℕ) → Sound e Whatever (skipped e end)
 unfolding skipped skip skipTurn
-skipped-sound e end = maps e (λ u v a c. tt) (binds e (loops e (skip-takes e end) (λ _. binds e (pick-sound e (kind.Eol ∷ kind.Eof ∷ end ∷ []) 0) (λ which. ifs e (ltb which 3) (gives e) (binds e (bump-sound e) (λ _. gives e)))) tt) (λ _. gives e))
+skipped-sound e end = maps e (λ u v a c. tt) (binds e (loops e (skip-takes e end) (λ _. chooses e (skipCases e end) (way e (gives e) (way e (gives e) (way e (gives e) (otherwise e (binds e (bump-sound e) (λ _. gives e))))))) tt) (λ _. gives e))
 
 log-here-sound : (e : Sheet) → Sound e Nothing (logHere e)
 unfolding logHere
@@ -91,24 +90,24 @@ module _ (e : Sheet) (end : ℕ) where
   stmts-read (turn (not-ate n ▸ x ▸ not-ate m ▸ yes-saw i ▸ q ▸ z) r) = absurd q
 
   -- parse_exprs
-  pub body-sound : (d : ℕ) → Sound e (Value (e .text) Stmt) (stmt (levels e d)) → Sound e (Rowing (e .text) (Body end) noKids) (body (levels e d) end)
-  unfolding body bodyTurn stmtOr shape
+  pub body-sound : (d : ℕ) → Sound e (Value (e .text) Stmt) (stmt (levels e d)) → Sound e (Rowing (e .text) (Exprs end) noKids) (exprs (levels e d) end)
+  unfolding exprs exprsTurn stmtOr shape
   body-sound d stmts = maps e (λ u v k c. go c) (binds e (eat-eol-sound e) (λ _. loops e (body-turn-takes e d end)
       (λ kids. binds e (eat-sound e end) (λ b. ifs e b (gives e) (binds e (recovers e stmts (λ a. gives e) (skipped-sound e end)) (λ link. after-stmt-sound kids link)))) noKids))
     where
-      begun : {p q : Place} {n : ℕ} {xs : List ℕ} {v : Spot} {j : Row} → Derives (e .text) Eols p q → Listed (e .text) (Stmts end) noKids (at q n xs) v j → Listed (e .text) (Body end) noKids (at p n xs) v j
-      begun a (listed d f) = listed (body-of a d) f
+      begun : {p q : Place} {n : ℕ} {xs : List ℕ} {v : Spot} {j : Row} → Derives (e .text) Eols p q → Listed (e .text) (Stmts end) noKids (at q n xs) v j → Listed (e .text) (Exprs end) noKids (at p n xs) v j
+      begun a (listed d f) = listed (exprs-of a d) f
 
-      go : {u v : Spot} {k : Kids} → Seq (Lined (e .text)) (λ _. Star BodyTurn noKids) u v k → Rowing (e .text) (Body end) noKids u v k
+      go : {u v : Spot} {k : Kids} → Seq (Lined (e .text)) (λ _. Star BodyTurn noKids) u v k → Rowing (e .text) (Exprs end) noKids u v k
       go (lined a ▸ r) = begun a (stmts-read r)
 
 -- parse_block, and one with a record of another kind and of the same range over it
-module _ (e : Sheet) (d : ℕ) (bodies : (end : ℕ) → Sound e (Rowing (e .text) (Body end) noKids) (levels e d .body end)) where
+module _ (e : Sheet) (d : ℕ) (bodies : (end : ℕ) → Sound e (Rowing (e .text) (Exprs end) noKids) (levels e d .exprs end)) where
   -- a block's own record
   abbrev BlockOf : ℕ → Kids → Claim ℕ
   BlockOf from k = Closed node.Block from 0 0 (flagged (k .count) 0 false false) (k .first)
 
-  block-record : {p q : Place} {n a : ℕ} {xs : List ℕ} {v w : Spot} {k : Kids} → Tok kind.OpenBrace p q → Rowing (e .text) (Body kind.CloseBrace) noKids (at q n xs) v k → BlockOf (startOf q) k v w a → Value (e .text) Block (at p n xs) w a
+  block-record : {p q : Place} {n a : ℕ} {xs : List ℕ} {v w : Spot} {k : Kids} → Tok kind.OpenBrace p q → Rowing (e .text) (Exprs kind.CloseBrace) noKids (at q n xs) v k → BlockOf (startOf q) k v w a → Value (e .text) Block (at p n xs) w a
   unfolding shape
   block-record {q = q} t (listed b f) (closed {p = r} o) =
       value (block-of t b) refl (λ es st. let g = f _ 0 none es refl (begin st) in relabel (ap (λ z. labelled node.Block (startOf q) 0 0 z r) (word-flags _ false false (g .count))) (wrapped _ (g .stack) o))
@@ -117,7 +116,7 @@ module _ (e : Sheet) (d : ℕ) (bodies : (end : ℕ) → Sound e (Rowing (e .tex
   unfolding block blockRecord wrapped-rule
   block-sound = maps e (λ u v a c. go c) (binds e (expect-sound e kind.OpenBrace) (λ _. binds e (start-sound e) (λ from. binds e (bodies kind.CloseBrace) (λ k. binds e (close-sound e node.Block from 0 0 (flagged (k .count) 0 false false) (k .first)) (λ link. gives e)))))
     where
-      go : {u v : Spot} {a : ℕ} → Seq (Took kind.OpenBrace) (λ _. Seq Started (λ from. Seq (Rowing (e .text) (Body kind.CloseBrace) noKids) (λ k. Seq (BlockOf from k) (λ link. Gave link)))) u v a → Value (e .text) Block u v a
+      go : {u v : Spot} {a : ℕ} → Seq (Took kind.OpenBrace) (λ _. Seq Started (λ from. Seq (Rowing (e .text) (Exprs kind.CloseBrace) noKids) (λ k. Seq (BlockOf from k) (λ link. Gave link)))) u v a → Value (e .text) Block u v a
       go (took t ▸ started ▸ r ▸ c ▸ gave) = block-record t r c
 
   pub covered-sound : (kind-over : ℕ) → Sound e (Becomes (e .text) Block 0 (λ q f. only (covered (suc kind-over) (f .row)))) (block (levels e d) (suc kind-over))
@@ -125,7 +124,7 @@ module _ (e : Sheet) (d : ℕ) (bodies : (end : ℕ) → Sound e (Rowing (e .tex
   covered-sound kind-over = maps e (λ u v a c. go c) (binds e (expect-sound e kind.OpenBrace) (λ _. binds e (start-sound e) (λ from. binds e (bodies kind.CloseBrace) (λ k.
       binds e (close-sound e node.Block from 0 0 (flagged (k .count) 0 false false) (k .first)) (λ link. close-sound e (suc kind-over) from 0 0 0 link)))))
     where
-      go : {u v : Spot} {a : ℕ} → Seq (Took kind.OpenBrace) (λ _. Seq Started (λ from. Seq (Rowing (e .text) (Body kind.CloseBrace) noKids) (λ k. Seq (BlockOf from k) (λ link. Closed (suc kind-over) from 0 0 0 link)))) u v a
+      go : {u v : Spot} {a : ℕ} → Seq (Took kind.OpenBrace) (λ _. Seq Started (λ from. Seq (Rowing (e .text) (Exprs kind.CloseBrace) noKids) (λ k. Seq (BlockOf from k) (λ link. Closed (suc kind-over) from 0 0 0 link)))) u v a
           → Becomes (e .text) Block 0 (λ q f. only (covered (suc kind-over) (f .row))) u v a
       go (took t ▸ started {p = q} ▸ listed b f ▸ closed {p = r} o ▸ closed m) =
           becomes (block-of t b) refl (λ es st. let g = f _ 0 none es refl (begin st) in wrapped _ (as-row (relabel (ap (λ z. labelled node.Block (startOf q) 0 0 z r) (word-flags _ false false (g .count))) (wrapped _ (g .stack) o))) m)

@@ -3,7 +3,7 @@ use mathlib.Core.Path.{_≡_, refl, ap}
 use mathlib.Core.List.{List, _∷_}
 use mathlib.Core.Bool.{Bool, true, false}
 use Prim.Native.Nat.{ℕ}
-use lib.Dec.{ltb, eqb}
+use lib.Dec.{ltb}
 use borrow.Author.Tests.{lt-ltb}
 use Rattle.kinds.specs.Number as kind
 use Rattle.cursor.specs.declared.Kids.{Kids}
@@ -16,18 +16,17 @@ use Rattle.cursor.proofs.Laws.{join-assoc}
 use Rattle.cursor.proofs.RecordPaths.{added}
 use Rattle.cursor.proofs.Stack.{Entry, row, Stack, link-some}
 use Rattle.cursor.proofs.Grows.{begin, as-row}
-use Rattle.parts.specs.Records.{ifRecord, roundRecord}
-use Rattle.parts.specs.Steps.{loopNames}
+use Rattle.parts.specs.Records.{ifRecord}
 use Rattle.rules.specs.Inner.{expr}
 use Rattle.rules.specs.Levels.{levels}
-use Rattle.rules.specs.Blocks.{andBlock}
-use Rattle.rules.specs.Atoms.{alternate, ifElse, loops as loops-rule}
+use Rattle.rules.specs.Blocks.{exprAndBlock}
+use Rattle.rules.specs.Atoms.{alternate, ifExpr, loopExpr, whileExpr, forExpr}
 use Rattle.grammar.specs.Places.{Place, startOf, Tok, Here}
-use Rattle.grammar.specs.Symbols.{Other, Block, Body, Atom, Alternate, Names, Expr as Whole}
+use Rattle.grammar.specs.Symbols.{Other, Block, Exprs, Atom, Alternate, Names, Expr as Whole}
 use Rattle.grammar.specs.Derives.{Derives, if-expr, loop-expr, while-expr, for-expr, no-else, else-if, else-block}
 use Rattle.grammar.specs.Builders.{Shape, blank, only, over, couple, rowBefore, ifOver, covered}
 use Rattle.grammar.specs.Shape.{shape}
-use Rattle.sound.proofs.Sound.{Spot, at, Claim, Seq, _▸_, Gave, gave, If, Sound, gives, maps, ifs, binds}
+use Rattle.sound.proofs.Sound.{Spot, at, Claim, Seq, _▸_, If, Sound, maps, ifs, binds}
 use Rattle.sound.proofs.SoundSteps.{Bumped, bumped, Took, took, Ate, yes-ate, not-ate, Saw, yes-saw, not-saw, Added, added-to, add-sound, bump-sound, check-sound, eat-sound, expect-sound}
 use Rattle.sound.proofs.SoundValues.{Value, value, Optional, some-value, no-value, wrapped, joined, unlinked, relabel, retree, labelled, Closed, closed, SomeAdded, none-added, some-added, close-sound, add-some-sound}
 use Rattle.sound.proofs.SoundItems.{listed, word-flags}
@@ -41,10 +40,10 @@ pub data Guarded (text : List ℕ) (kids : Kids) : Spot → Spot → Kids → Ty
   guarded : {p q r : Place} {n m : ℕ} {xs ys : List ℕ} {k : Kids} {l i : Label} {ks js : Trees} (b : Derives text (Whole false) p q) (c : Derives text Block q r) → shape b 0 blank ≡ only (tree l ks) → shape c 0 blank ≡ only (tree i js)
       → ((lo : ℕ) (ts : Trees) (es : List Entry) → Stack xs n (row lo (kids .first) (kids .last) ts ∷ es) → Stack ys m (row lo (k .first) (k .last) (join ts (join (tree l ks) (tree i js))) ∷ es)) → Guarded text kids (at p n xs) (at r m ys) k
 
-module _ (e : Sheet) (d : ℕ) (exprs : (lambda : Bool) → Sound e (Value (e .text) (Whole lambda)) (expr (levels e d) lambda)) (bodies : (end : ℕ) → Sound e (Rowing (e .text) (Body end) noKids) (levels e d .body end)) where
+module _ (e : Sheet) (d : ℕ) (exprs : (lambda : Bool) → Sound e (Value (e .text) (Whole lambda)) (expr (levels e d) lambda)) (bodies : (end : ℕ) → Sound e (Rowing (e .text) (Exprs end) noKids) (levels e d .exprs end)) where
   -- parse_expr_and_block: the expression joins the row when the block stands on the stack already
-  pub and-block-sound : (kids : Kids) → Sound e (Guarded (e .text) kids) (andBlock (levels e d) kids)
-  unfolding andBlock
+  pub and-block-sound : (kids : Kids) → Sound e (Guarded (e .text) kids) (exprAndBlock (levels e d) kids)
+  unfolding exprAndBlock
   and-block-sound kids = maps e (λ u v k c. go c) (binds e (exprs false) (λ link. binds e (block-sound e d bodies) (λ body. binds e (add-sound e kids link) (λ one. add-sound e one body))))
     where
       go : {u v : Spot} {k : Kids} → Seq (Value (e .text) (Whole false)) (λ link. Seq (Value (e .text) Block) (λ body. Seq (Added kids link) (λ one. Added one body))) u v k → Guarded (e .text) kids u v k
@@ -66,8 +65,8 @@ module _ (e : Sheet) (d : ℕ) (exprs : (lambda : Bool) → Sound e (Value (e .t
   abbrev pub Branching : ℕ → Claim ℕ
   Branching from = Seq Bumped (λ _. Seq (Guarded (e .text) noKids) (λ kids. Seq (Ate kind.Else) (λ b. If b (Seq Otherwise (λ a. IfOf from kids a)) (IfOf from kids 0))))
 
-  pub if-sound : (from : ℕ) → Sound e (Branching from) (ifElse (levels e d) from)
-  unfolding ifElse alternate ifRecord
+  pub if-sound : (from : ℕ) → Sound e (Branching from) (ifExpr (levels e d) from)
+  unfolding ifExpr alternate ifRecord
   if-sound from = binds e (bump-sound e) (λ _. binds e (and-block-sound noKids) (λ kids. binds e (eat-sound e kind.Else) (λ b. ifs e b
       (binds e (binds e (check-sound e kind.If) (λ i. ifs e i (exprs true) (covered-sound e d bodies 8))) (λ a. binds e (add-some-sound e kids a) (λ all. close-sound e node.If from 0 0 _ (all .first))))
       (binds e (add-some-sound e kids 0) (λ all. close-sound e node.If from 0 0 _ (all .first))))))
@@ -91,28 +90,38 @@ module _ (e : Sheet) (d : ℕ) (exprs : (lambda : Bool) → Sound e (Value (e .t
   if-read h (bumped t ▸ g ▸ not-ate n ▸ c) = if-over (record { here = h .stands; next = t }) g (no-value (no-else n) refl) c
   if-read h (bumped t ▸ g ▸ yes-ate o ▸ a ▸ c) = if-over (record { here = h .stands; next = t }) g (some-value (otherwise-read o a)) c
 
-  -- `loop`, `while` and `for`, by their places in the chain of atoms
-  abbrev pub Looping : ℕ → ℕ → Claim ℕ
-  Looping from which = Seq Bumped (λ _. If (eqb which 9) (Seq (Value (e .text) Block) (λ body. Closed node.Loop from 0 0 0 body))
-      (Seq (If (eqb which 10) (Gave noKids) (Seq (Rowing (e .text) Names noKids) (λ kids. Seq (Took kind.In) (λ _. Gave kids)))) (λ names. Seq (Guarded (e .text) names) (λ kids.
-      If (eqb which 10) (Closed node.While from 0 0 0 (kids .first)) (Closed node.For from 0 0 (flagged (names .count) 0 false false) (kids .first))))))
+  -- `loop`, `while` and `for`
+  abbrev pub LoopExpr : ℕ → Claim ℕ
+  LoopExpr from = Seq Bumped (λ _. Seq (Value (e .text) Block) (λ body. Closed node.Loop from 0 0 0 body))
 
-  pub loops-sound : (from which : ℕ) → Sound e (Looping from which) (loops-rule (levels e d) from which)
-  unfolding loops-rule loopNames roundRecord
-  loops-sound from which = binds e (bump-sound e) (λ _. ifs e (eqb which 9) (binds e (block-sound e d bodies) (λ body. close-sound e node.Loop from 0 0 0 body))
-      (binds e (ifs e (eqb which 10) (gives e) (binds e (names-sound e) (λ kids. binds e (expect-sound e kind.In) (λ _. gives e)))) (λ names. binds e (and-block-sound names) (λ kids.
-      ifs e (eqb which 10) (close-sound e node.While from 0 0 0 (kids .first)) (close-sound e node.For from 0 0 _ (kids .first))))))
+  abbrev pub WhileExpr : ℕ → Claim ℕ
+  WhileExpr from = Seq Bumped (λ _. Seq (Guarded (e .text) noKids) (λ kids. Closed node.While from 0 0 0 (kids .first)))
 
-  pub loop-read : {p : Place} {n a : ℕ} {xs : List ℕ} {v : Spot} → Here kind.Loop p → Looping (startOf p) 9 (at p n xs) v a → Value (e .text) (Atom Other) (at p n xs) v a
+  abbrev pub ForExpr : ℕ → Claim ℕ
+  ForExpr from = Seq Bumped (λ _. Seq (Rowing (e .text) Names noKids) (λ names. Seq (Took kind.In) (λ _. Seq (Guarded (e .text) names) (λ kids. Closed node.For from 0 0 (flagged (names .count) 0 false false) (kids .first)))))
+
+  pub loop-sound : (from : ℕ) → Sound e (LoopExpr from) (loopExpr (levels e d) from)
+  unfolding loopExpr
+  loop-sound from = binds e (bump-sound e) (λ _. binds e (block-sound e d bodies) (λ body. close-sound e node.Loop from 0 0 0 body))
+
+  pub while-sound : (from : ℕ) → Sound e (WhileExpr from) (whileExpr (levels e d) from)
+  unfolding whileExpr
+  while-sound from = binds e (bump-sound e) (λ _. binds e (and-block-sound noKids) (λ kids. close-sound e node.While from 0 0 0 (kids .first)))
+
+  pub for-sound : (from : ℕ) → Sound e (ForExpr from) (forExpr (levels e d) from)
+  unfolding forExpr
+  for-sound from = binds e (bump-sound e) (λ _. binds e (names-sound e) (λ names. binds e (expect-sound e kind.In) (λ _. binds e (and-block-sound names) (λ kids. close-sound e node.For from 0 0 _ (kids .first)))))
+
+  pub loop-read : {p : Place} {n a : ℕ} {xs : List ℕ} {v : Spot} → Here kind.Loop p → LoopExpr (startOf p) (at p n xs) v a → Value (e .text) (Atom Other) (at p n xs) v a
   unfolding shape
   loop-read {p} h (bumped t ▸ value b s f ▸ closed {p = q} o) = value (loop-expr (record { here = h .stands; next = t }) b) (λ j. over node.Loop (startOf p) q (s j)) (λ es st. wrapped _ (as-row (f es st)) o)
 
-  pub while-read : {p : Place} {n a : ℕ} {xs : List ℕ} {v : Spot} → Here kind.While p → Looping (startOf p) 10 (at p n xs) v a → Value (e .text) (Atom Other) (at p n xs) v a
+  pub while-read : {p : Place} {n a : ℕ} {xs : List ℕ} {v : Spot} → Here kind.While p → WhileExpr (startOf p) (at p n xs) v a → Value (e .text) (Atom Other) (at p n xs) v a
   unfolding shape join
-  while-read {p} h (bumped t ▸ gave ▸ guarded b c s y f ▸ closed {p = q} o) = value (while-expr (record { here = h .stands; next = t }) b c) (λ j. couple node.While (startOf p) q (s j) (y j)) (λ es st. wrapped _ (f _ none es (begin st)) o)
+  while-read {p} h (bumped t ▸ guarded b c s y f ▸ closed {p = q} o) = value (while-expr (record { here = h .stands; next = t }) b c) (λ j. couple node.While (startOf p) q (s j) (y j)) (λ es st. wrapped _ (f _ none es (begin st)) o)
 
-  pub for-read : {p : Place} {n a : ℕ} {xs : List ℕ} {v : Spot} → Here kind.For p → Looping (startOf p) 11 (at p n xs) v a → Value (e .text) (Atom Other) (at p n xs) v a
+  pub for-read : {p : Place} {n a : ℕ} {xs : List ℕ} {v : Spot} → Here kind.For p → ForExpr (startOf p) (at p n xs) v a → Value (e .text) (Atom Other) (at p n xs) v a
   unfolding shape
-  for-read {p} h (bumped t ▸ (listed k g ▸ took u ▸ gave) ▸ guarded b c s y f ▸ closed {p = q} o) =
+  for-read {p} h (bumped t ▸ listed k g ▸ took u ▸ guarded b c s y f ▸ closed {p = q} o) =
       value (for-expr (record { here = h .stands; next = t }) k u b c) (λ j. rowBefore node.For (startOf p) q (shape k 0 blank) (join (s j .row) (y j .row)))
       (λ es st. let r = g _ 0 none es refl (begin st) in relabel (ap (λ z. labelled node.For (startOf p) 0 0 z q) (word-flags _ false false (r .count))) (wrapped _ (f _ _ es (r .stack)) o))

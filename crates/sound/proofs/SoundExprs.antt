@@ -1,4 +1,4 @@
--- Expressions: the claim of a rule that answers one with its form, and of a loop that makes more of one; operators above a level.
+-- Expressions: the claim of a rule that answers one with its form, and of a loop that makes more of one; operators of a level or higher.
 use mathlib.Core.Path.{_≡_, refl, sym, ap, _∙_}
 use mathlib.Core.List.{List, _∷_}
 use mathlib.Core.Bool.{true, false}

@@ -3,14 +3,14 @@ use mathlib.Core.Path.{_≡_, refl, ap, _∙_}
 use mathlib.Core.List.{List}
 use mathlib.Core.Bool.{Bool, true, false}
 use Prim.Native.Nat.{ℕ}
-use lib.Dec.{ltb, eqb}
+use lib.Dec.{ltb}
 use borrow.Author.Tests.{lt-ltb}
 use Rattle.kinds.specs.Number as kind
 use Rattle.cursor.specs.declared.Kids.{Kids}
 use Rattle.cursor.specs.declared.Ranged.the-variants as ranged
 use Rattle.cursor.specs.Node as node
 use Rattle.cursor.specs.Sheet.{Sheet}
-use Rattle.cursor.specs.Records.{noKids, flagged}
+use Rattle.cursor.specs.Records.{noLink, noKids, flagged}
 use Rattle.cursor.specs.Tree.{none, join}
 use Rattle.cursor.proofs.Laws.{join-assoc}
 use Rattle.cursor.proofs.RecordPaths.{added}
@@ -23,13 +23,13 @@ use Rattle.parts.specs.Records.{functionKind, functionRecord, fnRecord}
 use Rattle.parts.specs.Steps.{anyParams}
 use Rattle.rules.specs.Levels.{levels}
 use Rattle.rules.specs.Functions.{function}
-use Rattle.rules.specs.Atoms.{doFunction, anonFunction, anon}
+use Rattle.rules.specs.Atoms.{fnExpr, closureExpr, doExpr}
 use Rattle.grammar.specs.Places.{Place, startOf, Here}
-use Rattle.grammar.specs.Symbols.{Other, Block, Body, Returns, Params, Function, Atom}
+use Rattle.grammar.specs.Symbols.{Other, Block, Exprs, Returns, Params, Function, Atom}
 use Rattle.grammar.specs.Derives.{Derives, function-of, fn-expr, closure-expr, do-expr}
 use Rattle.grammar.specs.Builders.{Shape, blank, signature, over, fnOver}
 use Rattle.grammar.specs.Shape.{shape}
-use Rattle.sound.proofs.Sound.{Spot, at, Claim, Seq, _▸_, If, Sound, maps, ifs, binds}
+use Rattle.sound.proofs.Sound.{Spot, at, Claim, Seq, _▸_, Sound, maps, binds}
 use Rattle.sound.proofs.SoundSteps.{Bumped, bumped, Added, added-to, add-sound, bump-sound}
 use Rattle.sound.proofs.SoundValues.{Value, value, Optional, some-value, no-value, wrapped, joined, unlinked, relabel, retree, labelled, Closed, closed, SomeAdded, none-added, some-added, close-sound, add-some-sound}
 use Rattle.sound.proofs.SoundItems.{Listed, listed, list-flags}
@@ -45,7 +45,7 @@ unfolding anyParams
 any-params-sound e d true = closure-params-sound e d (atoms-sound e d) noKids
 any-params-sound e d false = params-sound e d (atoms-sound e d) noKids
 
-module _ (e : Sheet) (d : ℕ) (bodies : (end : ℕ) → Sound e (Rowing (e .text) (Body end) noKids) (levels e d .body end)) where
+module _ (e : Sheet) (d : ℕ) (bodies : (end : ℕ) → Sound e (Rowing (e .text) (Exprs end) noKids) (levels e d .exprs end)) where
   module _ (from : ℕ) (closure : Bool) where
     -- the record of a function over what was read of it
     abbrev FunctionOf : Row → ℕ → Kids → Claim ℕ
@@ -81,27 +81,46 @@ module _ (e : Sheet) (d : ℕ) (bodies : (end : ℕ) → Sound e (Rowing (e .tex
             → Becomes (e .text) (Function closure) from (λ q f. f) u v a
         go (i ▸ r ▸ b ▸ k ▸ o ▸ c) = function-read i r b k o c
 
-  -- the expression over a function without a name: `fn`, a closure or `do`, by their places in the chain of atoms
-  abbrev pub Anonymous : ℕ → ℕ → Claim ℕ
-  Anonymous from which = Seq (If (eqb which 5) (Becomes (e .text) (Function true) from (λ q f. f)) (Seq Bumped (λ _. If (eqb which 4) (Becomes (e .text) (Function false) from (λ q f. f)) (Seq (Value (e .text) Block) (λ body. Closed node.Do from 0 0 0 body)))))
-      (λ f. Seq (SomeAdded noKids 0) (λ one. Seq (Added one f) (λ two. Closed node.Fn from 0 0 (flagged 0 0 false false) (two .first))))
+  -- the expression over a function without a name
+  abbrev FnOf : ℕ → ℕ → Claim ℕ
+  FnOf from f = Seq (SomeAdded noKids 0) (λ one. Seq (Added one f) (λ two. Closed node.Fn from 0 0 (flagged 0 0 false false) (two .first)))
 
-  pub anon-sound : (from which : ℕ) → Sound e (Anonymous from which) (anon (levels e d) from which)
-  unfolding anon anonFunction doFunction fnRecord
-  anon-sound from which =
-      binds e (ifs e (eqb which 5) (function-sound from true) (binds e (bump-sound e) (λ _. ifs e (eqb which 4) (function-sound from false) (binds e (block-sound e d bodies) (λ body. close-sound e node.Do from 0 0 0 body)))))
-      (λ f. binds e (add-some-sound e noKids 0) (λ one. binds e (add-sound e one f) (λ two. close-sound e node.Fn from 0 0 _ (two .first))))
+  fn-of-sound : (from f : ℕ) → Sound e (FnOf from f) (fnRecord from ranged.Nowhere noLink f)
+  unfolding fnRecord
+  fn-of-sound from f = binds e (add-some-sound e noKids 0) (λ one. binds e (add-sound e one f) (λ two. close-sound e node.Fn from 0 0 _ (two .first)))
 
-  pub fn-read : {p : Place} {n a : ℕ} {xs : List ℕ} {v : Spot} → Here kind.Fn p → Anonymous (startOf p) 4 (at p n xs) v a → Value (e .text) (Atom Other) (at p n xs) v a
+  -- `fn`, a closure and `do`
+  abbrev pub FnExpr : ℕ → Claim ℕ
+  FnExpr from = Seq Bumped (λ _. Seq (Becomes (e .text) (Function false) from (λ q f. f)) (λ f. FnOf from f))
+
+  abbrev pub ClosureExpr : ℕ → Claim ℕ
+  ClosureExpr from = Seq (Becomes (e .text) (Function true) from (λ q f. f)) (λ f. FnOf from f)
+
+  abbrev pub DoExpr : ℕ → Claim ℕ
+  DoExpr from = Seq Bumped (λ _. Seq (Value (e .text) Block) (λ body. Seq (Closed node.Do from 0 0 0 body) (λ f. FnOf from f)))
+
+  pub fn-sound : (from : ℕ) → Sound e (FnExpr from) (fnExpr (levels e d) from)
+  unfolding fnExpr
+  fn-sound from = binds e (bump-sound e) (λ _. binds e (function-sound from false) (λ f. fn-of-sound from f))
+
+  pub closure-sound : (from : ℕ) → Sound e (ClosureExpr from) (closureExpr (levels e d) from)
+  unfolding closureExpr
+  closure-sound from = binds e (function-sound from true) (λ f. fn-of-sound from f)
+
+  pub do-sound : (from : ℕ) → Sound e (DoExpr from) (doExpr (levels e d) from)
+  unfolding doExpr
+  do-sound from = binds e (bump-sound e) (λ _. binds e (block-sound e d bodies) (λ body. binds e (close-sound e node.Do from 0 0 0 body) (λ f. fn-of-sound from f)))
+
+  pub fn-read : {p : Place} {n a : ℕ} {xs : List ℕ} {v : Spot} → Here kind.Fn p → FnExpr (startOf p) (at p n xs) v a → Value (e .text) (Atom Other) (at p n xs) v a
   unfolding shape join
-  fn-read {p} h ((bumped t ▸ becomes b s f) ▸ none-added ▸ added-to ▸ closed {p = q} o) =
+  fn-read {p} h (bumped t ▸ becomes b s f ▸ none-added ▸ added-to ▸ closed {p = q} o) =
       value (fn-expr (record { here = h .stands; next = t }) b) (λ j. fnOver (startOf p) q ranged.Nowhere none (s j)) (λ es st. wrapped _ (as-row (f es st)) o)
 
-  pub closure-read : {p : Place} {n a : ℕ} {xs : List ℕ} {v : Spot} → Anonymous (startOf p) 5 (at p n xs) v a → Value (e .text) (Atom Other) (at p n xs) v a
+  pub closure-read : {p : Place} {n a : ℕ} {xs : List ℕ} {v : Spot} → ClosureExpr (startOf p) (at p n xs) v a → Value (e .text) (Atom Other) (at p n xs) v a
   unfolding shape join
   closure-read {p} (becomes b s f ▸ none-added ▸ added-to ▸ closed {p = q} o) = value (closure-expr b) (λ j. fnOver (startOf p) q ranged.Nowhere none (s j)) (λ es st. wrapped _ (as-row (f es st)) o)
 
-  pub do-read : {p : Place} {n a : ℕ} {xs : List ℕ} {v : Spot} → Here kind.Do p → Anonymous (startOf p) 6 (at p n xs) v a → Value (e .text) (Atom Other) (at p n xs) v a
+  pub do-read : {p : Place} {n a : ℕ} {xs : List ℕ} {v : Spot} → Here kind.Do p → DoExpr (startOf p) (at p n xs) v a → Value (e .text) (Atom Other) (at p n xs) v a
   unfolding shape join
-  do-read {p} h ((bumped t ▸ value b s f ▸ closed {p = r} k) ▸ none-added ▸ added-to ▸ closed {p = q} o) =
+  do-read {p} h (bumped t ▸ value b s f ▸ closed {p = r} k ▸ none-added ▸ added-to ▸ closed {p = q} o) =
       value (do-expr (record { here = h .stands; next = t }) b) (λ j. fnOver (startOf p) q ranged.Nowhere none (over node.Do (startOf p) q (s j))) (λ es st. wrapped _ (as-row (wrapped _ (as-row (f es st)) k)) o)

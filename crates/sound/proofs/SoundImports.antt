@@ -4,7 +4,6 @@ use mathlib.Core.List.{List, _∷_}
 use mathlib.Core.Bool.{Bool, true, false}
 use Prim.Native.Nat.{ℕ, _+_, _*_, _^_}
 use native.Mathlib.Omega.{arith}
-use lib.Dec.{ltb, eqb}
 use Rattle.kinds.specs.Number as kind
 use Rattle.cursor.specs.declared.Kids.{Kids}
 use Rattle.cursor.specs.declared.Label.{Label}
@@ -20,7 +19,7 @@ use Rattle.cursor.proofs.Grows.{begin, as-row}
 use Rattle.parts.specs.declared.imports.Imported.{Imported}
 use Rattle.parts.specs.Answers.{onPath}
 use Rattle.parts.specs.Values.{uncounted}
-use Rattle.parts.specs.Imports.{imported, endChain, tailChain, importItem, importItems, importEnd, importTail, pathTurn, importStmt}
+use Rattle.parts.specs.Imports.{imported, importItem, importItems, importSimple, importAlias, importNested, importGlob, endCases, tailCases, importEnd, importTail, pathTurn, importStmt}
 use Rattle.parts.proofs.UntilPaths.{until-takes}
 use Rattle.parts.proofs.ImportTakes.{import-items-keep, path-takes}
 use Rattle.grammar.specs.Places.{Place, startOf, Tok}
@@ -29,7 +28,7 @@ use Rattle.grammar.specs.Derives.{Derives, path-more, path-alone, path-as, path
 use Rattle.grammar.specs.Builders.{blank, only, more as longer, made, over, importOver}
 use Rattle.grammar.specs.Shape.{shape}
 use Rattle.sound.proofs.Sound.{Spot, at, Claim, Seq, _▸_, Gave, gave, answer, not-both, If, Nothing, Star, halt, turn, Sound, gives, maps, ifs, binds, loops}
-use Rattle.sound.proofs.SoundSteps.{Bumped, bumped, Ate, yes-ate, not-ate, Saw, yes-saw, not-saw, Picked, none-of, this-one, later-one, Added, added-to, add-sound, bump-sound, check-sound, eat-sound, unexpected-sound, pick-sound}
+use Rattle.sound.proofs.SoundSteps.{Bumped, bumped, Ate, yes-ate, not-ate, Saw, yes-saw, not-saw, Way, this-one, later-one, Added, added-to, add-sound, bump-sound, check-sound, eat-sound, unexpected-sound, way, otherwise, chooses}
 use Rattle.sound.proofs.SoundValues.{Value, value, wrapped, joined, relabel, Started, started, labelled, Closed, closed, start-sound, close-sound, ident-sound}
 use Rattle.sound.proofs.SoundItems.{sofar, as-shape, Listed, listed, word-more, until-sound}
 use Rattle.sound.proofs.ListShape.{behind-none, until-behind}
@@ -78,24 +77,28 @@ module _ (e : Sheet) where
 
   -- what stands behind a path, and behind its last `::`
   abbrev EndOf : Kids → Claim (Next Imported)
-  EndOf kids = Seq (Picked endChain 0) (λ which. If (eqb which 0) (Gave (stop (imported kids (kids .count) 0 false false)))
-      (If (ltb 1 which) Nothing (Seq Bumped (λ _. Seq (Value (e .text) Ident) (λ alias. Seq (Added kids alias) (λ all. Gave (stop (imported all (kids .count) 0 true false))))))))
+  EndOf kids = Way kind.Eol (Gave (stop (imported kids (kids .count) 0 false false)))
+      (Way kind.As (Seq Bumped (λ _. Seq (Value (e .text) Ident) (λ alias. Seq (Added kids alias) (λ all. Gave (stop (imported all (kids .count) 0 true false)))))) Nothing)
 
   abbrev TailOf : Kids → Claim (Next Imported)
-  TailOf kids = Seq (Picked tailChain 0) (λ which. If (ltb 1 which) Nothing (Seq Bumped (λ _. If (eqb which 1) (Gave (stop (imported kids (kids .count) 0 true true)))
-      (Seq (Listed (e .text) (Until ImportItem NoLast kind.CloseBrace) (uncounted kids)) (λ i. Gave (stop (imported (i .kids) (kids .count) (i .kids .count) false true)))))))
+  TailOf kids = Way kind.OpenBrace (Seq Bumped (λ _. Seq (Listed (e .text) (Until ImportItem NoLast kind.CloseBrace) (uncounted kids)) (λ i. Gave (stop (imported (i .kids) (kids .count) (i .kids .count) false true)))))
+      (Way kind.Mul (Seq Bumped (λ _. Gave (stop (imported kids (kids .count) 0 true true)))) Nothing)
+
+  end-sound : (kids : Kids) → Sound e (EndOf kids) (importEnd e kids)
+  unfolding importEnd importSimple importAlias
+  end-sound kids = chooses e (endCases e kids) (way e (gives e) (way e (binds e (bump-sound e) (λ _. binds e (ident-sound e) (λ alias. binds e (add-sound e kids alias) (λ all. gives e)))) (otherwise e (unexpected-sound e))))
+
+  tail-sound : (kids : Kids) → Sound e (TailOf kids) (importTail e kids)
+  unfolding importTail importNested importGlob
+  tail-sound kids = chooses e (tailCases e kids) (way e (binds e (bump-sound e) (λ _. binds e (items-sound (uncounted kids)) (λ i. gives e))) (way e (binds e (bump-sound e) (λ _. gives e)) (otherwise e (unexpected-sound e))))
 
   abbrev PathTurn : Imported → Claim (Next Imported)
   PathTurn i = Seq (Value (e .text) Ident) (λ name. Seq (Added (i .kids) name) (λ all. Seq (Ate kind.DoubleColon) (λ b. If b (Seq (Saw kind.Ident) (λ o. If o (Gave (more (onPath all))) (TailOf all))) (EndOf all))))
 
   path-turn-sound : (i : Imported) → Sound e (PathTurn i) (pathTurn e i)
-  unfolding pathTurn importEnd importTail
-  path-turn-sound i = binds e (ident-sound e) (λ name. binds e (add-sound e (i .kids) name) (λ all. binds e (eat-sound e kind.DoubleColon) (λ b. ifs e b
-      (binds e (check-sound e kind.Ident) (λ o. ifs e o (gives e) (tail all)))
-      (binds e (pick-sound e endChain 0) (λ which. ifs e (eqb which 0) (gives e) (ifs e (ltb 1 which) (unexpected-sound e) (binds e (bump-sound e) (λ _. binds e (ident-sound e) (λ alias. binds e (add-sound e all alias) (λ more. gives e))))))))))
-    where
-      tail : (kids : Kids) → Sound e (TailOf kids) (importTail e kids)
-      tail kids = binds e (pick-sound e tailChain 0) (λ which. ifs e (ltb 1 which) (unexpected-sound e) (binds e (bump-sound e) (λ _. ifs e (eqb which 1) (gives e) (binds e (items-sound (uncounted kids)) (λ i. gives e)))))
+  unfolding pathTurn
+  path-turn-sound i =
+      binds e (ident-sound e) (λ name. binds e (add-sound e (i .kids) name) (λ all. binds e (eat-sound e kind.DoubleColon) (λ b. ifs e b (binds e (check-sound e kind.Ident) (λ o. ifs e o (gives e) (tail-sound all))) (end-sound all))))
 
   module _ (from : ℕ) where
     -- a name and what follows it
@@ -109,20 +112,20 @@ module _ (e : Sheet) where
     path-read : {u v : Spot} {i j : Imported} → Star PathTurn i u v j → Pathed (e .text) from (i .kids) u v j
     unfolding shape
     path-read {i = i} (turn (value d s f ▸ added-to ▸ yes-ate t ▸ yes-saw h ▸ gave) r) = and-name (i .kids) d s f t (path-read r)
-    path-read {i = i} (halt (value {q = q} {a = a} {l = l} {ks = ks} d s f ▸ added-to ▸ not-ate n ▸ this-one h ▸ gave)) = pathed (path-alone d h) (λ c ts. record {
+    path-read {i = i} (halt (value {q = q} {a = a} {l = l} {ks = ks} d s f ▸ added-to ▸ not-ate n ▸ this-one h gave)) = pathed (path-alone d h) (λ c ts. record {
       flags-now = flagged (c + 1) 0 false false;
       kids-now = join ts (tree l ks);
       same = ap (λ z. importOver from q (longer (sofar ts c) z) blank false false) s ∙ ap (λ z. made node.Import from q 0 0 (flagged (c + 1) 0 false false) z) (join-none (join ts (tree l ks)));
       push = λ lo es k st. record { stack = joined (i .kids) a (f _ st); flags-are = two-flags (c + 1) 0 false false (word-more c k) refl };
     })
-    path-read {i = i} (halt (value {a = a} {l = l} {ks = ks} d s f ▸ added-to ▸ not-ate n ▸ later-one _ (this-one h) ▸ bumped t ▸ value {q = q} {a = b} {l = o} {ks = js} x y g ▸ added-to ▸ gave)) =
+    path-read {i = i} (halt (value {a = a} {l = l} {ks = ks} d s f ▸ added-to ▸ not-ate n ▸ later-one _ (this-one h (bumped t ▸ value {q = q} {a = b} {l = o} {ks = js} x y g ▸ added-to ▸ gave)))) =
         pathed (path-as d (record { here = h .stands; next = t }) x) (λ c ts. record {
           flags-now = flagged (c + 1) 0 true false;
           kids-now = join (join ts (tree l ks)) (tree o js);
           same = λ i. importOver from q (longer (sofar ts c) (s i)) (y i) true false;
           push = λ lo es k st. record { stack = joined (added (i .kids) a) b (g _ (joined (i .kids) a (f _ st))); flags-are = two-flags (c + 1) 0 true false (word-more c k) refl };
         })
-    path-read {i = i} (halt (value {a = a} {l = l} {ks = ks} d s f ▸ added-to ▸ yes-ate t ▸ not-saw n ▸ this-one h ▸ bumped u ▸ listed {q = q} b g ▸ gave)) = pathed (path-items d t (record { here = h .stands; next = u }) b) (λ c ts.
+    path-read {i = i} (halt (value {a = a} {l = l} {ks = ks} d s f ▸ added-to ▸ yes-ate t ▸ not-saw n ▸ this-one h (bumped u ▸ listed {q = q} b g ▸ gave))) = pathed (path-items d t (record { here = h .stands; next = u }) b) (λ c ts.
         let names = join ts (tree l ks) in
         record {
           flags-now = flagged (c + 1) (shape b 0 blank .count) false true;
@@ -132,21 +135,21 @@ module _ (e : Sheet) where
               let r = as-shape (until-behind b names 0 ∙ behind-none names (shape b 0 blank)) (g lo 0 names es refl (joined (i .kids) a (f _ st))) in
               record { stack = r .stack; flags-are = two-flags (c + 1) (shape b 0 blank .count) false true (word-more c k) (r .count) };
         })
-    path-read {i = i} (halt (value {a = a} {l = l} {ks = ks} d s f ▸ added-to ▸ yes-ate t ▸ not-saw n ▸ later-one _ (this-one h) ▸ bumped {q = q} u ▸ gave)) = pathed (path-all d t (record { here = h .stands; next = u })) (λ c ts. record {
+    path-read {i = i} (halt (value {a = a} {l = l} {ks = ks} d s f ▸ added-to ▸ yes-ate t ▸ not-saw n ▸ later-one _ (this-one h (bumped {q = q} u ▸ gave)))) = pathed (path-all d t (record { here = h .stands; next = u })) (λ c ts. record {
       flags-now = flagged (c + 1) 0 true true;
       kids-now = join ts (tree l ks);
       same = ap (λ z. importOver from q (longer (sofar ts c) z) blank true true) s ∙ ap (λ z. made node.Import from q 0 0 (flagged (c + 1) 0 true true) z) (join-none (join ts (tree l ks)));
       push = λ lo es k st. record { stack = joined (i .kids) a (f _ st); flags-are = two-flags (c + 1) 0 true true (word-more c k) refl };
     })
     path-read (halt (v ▸ added-to ▸ yes-ate t ▸ yes-saw h ▸ g)) = absurd (not-both (answer g))
-    path-read (halt (v ▸ added-to ▸ yes-ate t ▸ not-saw n ▸ later-one _ (later-one _ none-of) ▸ c)) = absurd c
-    path-read (halt (v ▸ added-to ▸ not-ate n ▸ later-one _ (later-one _ none-of) ▸ c)) = absurd c
-    path-read (turn (v ▸ added-to ▸ yes-ate t ▸ not-saw n ▸ this-one h ▸ b ▸ i ▸ g) r) = absurd (not-both (sym (answer g)))
-    path-read (turn (v ▸ added-to ▸ yes-ate t ▸ not-saw n ▸ later-one _ (this-one h) ▸ b ▸ g) r) = absurd (not-both (sym (answer g)))
-    path-read (turn (v ▸ added-to ▸ yes-ate t ▸ not-saw n ▸ later-one _ (later-one _ none-of) ▸ c) r) = absurd c
-    path-read (turn (v ▸ added-to ▸ not-ate n ▸ this-one h ▸ g) r) = absurd (not-both (sym (answer g)))
-    path-read (turn (v ▸ added-to ▸ not-ate n ▸ later-one _ (this-one h) ▸ b ▸ y ▸ added-to ▸ g) r) = absurd (not-both (sym (answer g)))
-    path-read (turn (v ▸ added-to ▸ not-ate n ▸ later-one _ (later-one _ none-of) ▸ c) r) = absurd c
+    path-read (halt (v ▸ added-to ▸ yes-ate t ▸ not-saw n ▸ later-one _ (later-one _ c))) = absurd c
+    path-read (halt (v ▸ added-to ▸ not-ate n ▸ later-one _ (later-one _ c))) = absurd c
+    path-read (turn (v ▸ added-to ▸ yes-ate t ▸ not-saw n ▸ this-one h (b ▸ i ▸ g)) r) = absurd (not-both (sym (answer g)))
+    path-read (turn (v ▸ added-to ▸ yes-ate t ▸ not-saw n ▸ later-one _ (this-one h (b ▸ g))) r) = absurd (not-both (sym (answer g)))
+    path-read (turn (v ▸ added-to ▸ yes-ate t ▸ not-saw n ▸ later-one _ (later-one _ c)) r) = absurd c
+    path-read (turn (v ▸ added-to ▸ not-ate n ▸ this-one h g) r) = absurd (not-both (sym (answer g)))
+    path-read (turn (v ▸ added-to ▸ not-ate n ▸ later-one _ (this-one h (b ▸ y ▸ added-to ▸ g))) r) = absurd (not-both (sym (answer g)))
+    path-read (turn (v ▸ added-to ▸ not-ate n ▸ later-one _ (later-one _ c)) r) = absurd c
 
     -- the statement, its keyword too: that one stands here is known where the statement is told from others
     pub import-sound : Sound e (Seq Bumped (λ _. Becomes (e .text) Path from (λ q f. f))) (importStmt e from)

@@ -5,7 +5,7 @@ use lib.ListN.{length}
 use Rattle.cursor.specs.Sheet.{Sheet}
 use Rattle.cursor.specs.Records.{noKids}
 use Rattle.rules.specs.Levels.{knot, levels}
-use Rattle.grammar.specs.Symbols.{Body, Prec}
+use Rattle.grammar.specs.Symbols.{Exprs, Prec}
 use Rattle.sound.proofs.KeepsStmts.{key-keeps, function-keeps}
 use Rattle.sound.proofs.Sound.{Sound, refuses}
 use Rattle.sound.proofs.SoundNames.{Rowing}
@@ -20,8 +20,8 @@ use Rattle.sound.proofs.SoundStmts.{stmt-sound}
 
 -- the two rules that use up a level
 pub record Tied (e : Sheet) (d : ℕ) : Type 0 where
-  pub bodies : (end : ℕ) → Sound e (Rowing (e .text) (Body end) noKids) (levels e d .body end)
-  pub precs : (n : ℕ) (lambda : Bool) → Sound e (Expressed (e .text) (Prec n lambda)) (levels e d .prec (n + 1) lambda)
+  pub bodies : (end : ℕ) → Sound e (Rowing (e .text) (Exprs end) noKids) (levels e d .exprs end)
+  pub precs : (n : ℕ) (lambda : Bool) → Sound e (Expressed (e .text) (Prec (n + 1) lambda)) (levels e d .prec (n + 1) lambda)
 
 pub knot-sound : (e : Sheet) → length (e .tokens) < 2 ^ 32 → (d : ℕ) → Tied e d
 unfolding knot

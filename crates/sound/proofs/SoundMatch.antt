@@ -19,7 +19,7 @@ use Rattle.parts.specs.Values.{rowOf}
 use Rattle.parts.specs.Records.{rowRecord}
 use Rattle.rules.specs.Inner.{expr}
 use Rattle.rules.specs.Levels.{levels}
-use Rattle.rules.specs.Atoms.{matchCase, caseTurn, cases}
+use Rattle.rules.specs.Atoms.{matchCase, caseTurn, matchExpr}
 use Rattle.rules.proofs.Takes.{case-turn-takes}
 use Rattle.grammar.specs.Places.{Place, startOf, Tok, Here}
 use Rattle.grammar.specs.Symbols.{Other, Eols, Atom, Cases, Case, Patterns, Expr as Whole}
@@ -81,9 +81,9 @@ module _ (e : Sheet) (d : ℕ) (exprs : (lambda : Bool) → Sound e (Value (e .t
   abbrev pub Matching : ℕ → Claim ℕ
   Matching from = Seq Bumped (λ _. Seq (Value (e .text) (Whole false)) (λ link. Seq (Took kind.OpenBrace) (λ _. Seq (Star CaseTurn (rowOf link)) (λ k. MatchOf from k))))
 
-  pub cases-sound : (from : ℕ) → Sound e (Matching from) (cases (levels e d) from)
-  unfolding cases
-  cases-sound from = binds e (bump-sound e) (λ _. binds e (exprs false) (λ link. binds e (expect-sound e kind.OpenBrace) (λ _. binds e (loops e (case-turn-takes e d) case-turn-sound (rowOf link)) (λ k. close-sound e node.Match from 0 0 _ (k .first)))))
+  pub match-sound : (from : ℕ) → Sound e (Matching from) (matchExpr (levels e d) from)
+  unfolding matchExpr
+  match-sound from = binds e (bump-sound e) (λ _. binds e (exprs false) (λ link. binds e (expect-sound e kind.OpenBrace) (λ _. binds e (loops e (case-turn-takes e d) case-turn-sound (rowOf link)) (λ k. close-sound e node.Match from 0 0 _ (k .first)))))
 
   match-over : {p q r s : Place} {n m a last c : ℕ} {xs ys : List ℕ} {l : Label} {ks : Trees} {v w : Spot} {k : Kids} → Tok kind.Match p q → (b : Derives (e .text) (Whole false) q r) → shape b 0 blank ≡ only (tree l ks)
       → ((es : List Entry) → Stack xs n es → Stack ys m (whole n a last l ks ∷ es)) → Tok kind.OpenBrace r s → Rowing (e .text) Cases (rowOf a) (at s m ys) v k → MatchOf (startOf p) k v w c → Value (e .text) (Atom Other) (at p n xs) w c

@@ -2,9 +2,8 @@
 use mathlib.Core.Path.{_≡_, refl, ap, _∙_}
 use mathlib.Core.List.{List, _∷_}
 use mathlib.Core.Bool.{Bool, true, false}
-use Prim.Native.Nat.{ℕ, zero, suc, _+_, _<_}
+use Prim.Native.Nat.{ℕ, suc}
 use native.Mathlib.Omega.{arith}
-use lib.Dec.{ltb}
 use Rattle.kinds.specs.Number as kind
 use Rattle.cursor.specs.declared.Label.{Label}
 use Rattle.cursor.specs.declared.Kids.{Kids}
@@ -12,21 +11,21 @@ use Rattle.cursor.specs.declared.Ranged.{Ranged}
 use Rattle.cursor.specs.declared.Ranged.the-variants as ranged
 use Rattle.cursor.specs.Node as node
 use Rattle.cursor.specs.Sheet.{Sheet}
-use Rattle.cursor.specs.Rule.{Next, more, stop}
-use Rattle.cursor.specs.Records.{noKids, flagged}
+use Rattle.cursor.specs.Rule.{Rule, Next, more, stop}
+use Rattle.cursor.specs.Records.{noLink, noKids, flagged}
 use Rattle.cursor.specs.Tree.{Trees, join, tree}
-use Rattle.cursor.proofs.Stack.{Entry, row, whole, Stack, link-some}
+use Rattle.cursor.proofs.Stack.{Entry, row, whole, Stack}
 use Rattle.cursor.proofs.Grows.{as-row}
 use Rattle.types.specs.Items.{isEnded, addSome}
 use Rattle.types.specs.Patterns.{spanOf as rangeOf}
 use Rattle.parts.specs.declared.values.Expr.{Expr}
 use Rattle.parts.specs.declared.values.Expr.the-variants as exprs
-use Rattle.parts.specs.Values.{linkOf, memberOf, memberKind}
+use Rattle.parts.specs.Members as members
+use Rattle.parts.specs.Values.{linkOf, memberOf}
 use Rattle.parts.specs.Records.{memberRecord}
-use Rattle.parts.proofs.RecordPaths.{kind-meta, kind-property}
-use Rattle.parts.specs.Steps.{noMember, metaEnd}
+use Rattle.parts.specs.Steps.{noMember}
 use Rattle.rules.specs.Inner.{expr}
-use Rattle.rules.specs.Primary.{memberChain, member as member-rule, access}
+use Rattle.rules.specs.Primary.{memberExpr, bracketMember, dotMember, doubleColonMember, memberCases, access}
 use Rattle.rules.specs.Levels.{levels}
 use Rattle.grammar.specs.Places.{Place, spanOf, Tok, Here, Not, Free, from-none, from-all}
 use Rattle.grammar.specs.Symbols.{Form, Ident, Expr as Whole, Posts, Member}
@@ -34,8 +33,8 @@ use Rattle.grammar.specs.Derives.{Derives, openers, NoLambda, no-post, member, 
 use Rattle.grammar.specs.Builders.{Shape, blank, only, memberOver}
 use Rattle.grammar.specs.Shape.{shape}
 use Rattle.sound.proofs.Sound.{Spot, at, Claim, Seq, _▸_, Gave, gave, If, Nothing, Star, halt, turn, Sound, maps, gives, ifs, binds}
-use Rattle.sound.proofs.SoundSteps.{Bumped, bumped, Took, took, Ate, yes-ate, not-ate, Ranges, ranges, no-range, Picked, none-of, this-one, later-one, Added, added-to, add-sound, bump-sound, unexpected-sound, eat-sound, expect-sound, eat-range-sound, pick-sound}
-use Rattle.sound.proofs.SoundValues.{Value, value, wrapped, relabel, labelled, Closed, closed, joined, unlinked, SomeAdded, none-added, some-added, close-sound, add-some-sound, ident-sound}
+use Rattle.sound.proofs.SoundSteps.{Bumped, bumped, Took, took, Ate, yes-ate, not-ate, Ranges, ranges, no-range, Way, this-one, later-one, Added, added-to, add-sound, bump-sound, unexpected-sound, eat-sound, expect-sound, eat-range-sound, way, otherwise, chooses}
+use Rattle.sound.proofs.SoundValues.{Value, value, wrapped, labelled, Closed, closed, joined, unlinked, SomeAdded, none-added, some-added, close-sound, add-some-sound, ident-sound}
 use Rattle.sound.proofs.SoundExprs.{formOf, fits-member, fits-other, Held, Grown, grown}
 
 -- a production for one call or member more, before whatever follows, and what it makes of the shape that stands already
@@ -98,21 +97,16 @@ lengthens e kids a = maps e (λ x y k c. go c) (add-some-sound e kids a)
     go (none-added {x = at p n xs}) = lengthened (λ lo mid last l ts ks es st. absurd (unlinked st)) (λ _ ts lo es st. st)
     go (some-added {i = i}) = lengthened (λ lo mid last l ts ks es st. joined kids (suc i) st) (λ q. absurd (omega (arith, q)))
 
--- what stands behind what the member belongs to: with a property, or without one for `#`
-data Membered (text : List ℕ) (which : ℕ) : Spot → Spot → ℕ → Type 0 where
-  named : {u v : Spot} {a : ℕ} → Value text (Member which) u v a → Membered text which u v a
-  meta : {p q : Place} {n : ℕ} {xs : List ℕ} (d : Derives text (Member (which + 3)) p q) → shape d 0 blank ≡ blank → Membered text which (at p n xs) (at q n xs) 0
-
 -- the label of its record
 abbrev memberLabel : ℕ → Ranged → Place → ℕ → Label
 memberLabel from safe q k = labelled node.Member from (rangeOf safe .start) (rangeOf safe .end) (flagged k 0 (isEnded safe) false) q
 
 abbrev MemberRecord : ℕ → Ranged → ℕ → Expr → ℕ → Claim (Next Expr)
-MemberRecord from safe which x link = Seq (Added noKids (linkOf x)) (λ one. Seq (Lengthened one link) (λ all. Seq (Closed node.Member from (rangeOf safe .start) (rangeOf safe .end) (flagged (memberKind which link) 0 (isEnded safe) false) (all .first)) (λ m. Gave (more (memberOf x safe m)))))
+MemberRecord from safe k x link = Seq (Added noKids (linkOf x)) (λ one. Seq (Lengthened one link) (λ all. Seq (Closed node.Member from (rangeOf safe .start) (rangeOf safe .end) (flagged k 0 (isEnded safe) false) (all .first)) (λ m. Gave (more (memberOf x safe m)))))
 
-member-record-sound : (e : Sheet) (from : ℕ) (safe : Ranged) (which : ℕ) (x : Expr) (link : ℕ) → Sound e (MemberRecord from safe which x link) (memberRecord from safe which x link)
+member-record-sound : (e : Sheet) (from : ℕ) (safe : Ranged) (k : ℕ) (x : Expr) (link : ℕ) → Sound e (MemberRecord from safe k x link) (memberRecord from safe k x link)
 unfolding memberRecord
-member-record-sound e from safe which x link = binds e (add-sound e noKids (linkOf x)) (λ one. binds e (lengthens e one link) (λ all. binds e (close-sound e node.Member from _ _ _ (all .first)) (λ m. gives e)))
+member-record-sound e from safe k x link = binds e (add-sound e noKids (linkOf x)) (λ one. binds e (lengthens e one link) (λ all. binds e (close-sound e node.Member from _ _ _ (all .first)) (λ m. gives e)))
 
 module _ (text : List ℕ) (lambda : Bool) (from : ℕ) where
   -- the production of a member, by what stands before it, and of one behind `?`
@@ -127,77 +121,102 @@ module _ (text : List ℕ) (lambda : Bool) (from : ℕ) where
   unfolding shape
   safe-post x link t d = record { before = λ g r b. safe-member t d b; before-is = λ g r b so. refl }
 
-  -- a member and its record are a turn, whatever production it is
-  member-goes : {o p : Place} {n a : ℕ} {xs : List ℕ} {v w : Spot} {b : Next Expr} (x : Expr) (safe : Ranged) (which : ℕ) → which < 3
-      → ((k link : ℕ) (q : Place) (d : Derives text (Member k) p q) → Post text lambda from (formOf x) (formOf (memberOf x safe link)) o q (λ so. memberOver from q safe k so (shape d 0 blank)))
-      → Membered text which (at p n xs) v a → MemberRecord from safe which x a v w b → PostTurn text lambda from x (at o n xs) w b
-  unfolding join
-  member-goes x safe which h post (named (value {q = q} {a = a} {l = i} {ks = js} d s f)) (added-to ▸ lengthened {k = all} u z ▸ closed o ▸ gave) = goes (post which _ q d) (λ last l ks. record {
-    last-now = all .last;
-    label-now = memberLabel from safe q which;
-    kids-now = join (tree l ks) (tree i js);
-    same = ap (λ t. memberOver from q safe which (only (tree l ks)) t) s;
-    push = λ lo es y.
-        let st = f _ (as-row (y .stack)) in
-        member-held x safe _ (relabel (ap (memberLabel from safe q) (kind-property which a (omega (arith, h)) (λ q. omega (arith, q, link-some st)))) (wrapped _ (u _ _ _ _ _ _ es st) o));
-  })
-  member-goes x safe which h post (meta {q = q} d s) (added-to ▸ lengthened {k = all} u z ▸ closed o ▸ gave) = goes (post (which + 3) _ q d) (λ last l ks. record {
-    last-now = all .last;
-    label-now = memberLabel from safe q (which + 3);
-    kids-now = tree l ks;
-    same = ap (λ t. memberOver from q safe (which + 3) (only (tree l ks)) t) s;
-    push = λ lo es y.
-        member-held x safe _ (relabel (ap (memberLabel from safe q) (kind-meta which 0 (omega (arith, h)) refl)) (wrapped _ (z refl _ _ es (as-row (y .stack))) o));
-  })
+  -- a member with a property, and one without, for `#`, are turns with their records, whatever production it is
+  module _ {o p : Place} (x : Expr) (safe : Ranged) (k : ℕ) (post : (link : ℕ) (q : Place) (d : Derives text (Member k) p q) → Post text lambda from (formOf x) (formOf (memberOf x safe link)) o q (λ so. memberOver from q safe k so (shape d 0 blank))) where
+    named-goes : {n a : ℕ} {xs : List ℕ} {v w : Spot} {b : Next Expr} → Value text (Member k) (at p n xs) v a → MemberRecord from safe k x a v w b → PostTurn text lambda from x (at o n xs) w b
+    named-goes (value {q = q} {l = i} {ks = js} d s f) (added-to ▸ lengthened {k = all} u z ▸ closed r ▸ gave) = goes (post _ q d) (λ last l ks. record {
+      last-now = all .last;
+      label-now = memberLabel from safe q k;
+      kids-now = join (tree l ks) (tree i js);
+      same = ap (λ t. memberOver from q safe k (only (tree l ks)) t) s;
+      push = λ lo es y. member-held x safe _ (wrapped _ (u _ _ _ _ _ _ es (f _ (as-row (y .stack)))) r);
+    })
+
+    meta-goes : {q : Place} {n : ℕ} {xs : List ℕ} {w : Spot} {b : Next Expr} (d : Derives text (Member k) p q) → shape d 0 blank ≡ blank → MemberRecord from safe k x 0 (at q n xs) w b → PostTurn text lambda from x (at o n xs) w b
+    unfolding join
+    meta-goes {q} d s (added-to ▸ lengthened {k = all} u z ▸ closed r ▸ gave) = goes (post _ q d) (λ last l ks. record {
+      last-now = all .last;
+      label-now = memberLabel from safe q k;
+      kids-now = tree l ks;
+      same = ap (λ t. memberOver from q safe k (only (tree l ks)) t) s;
+      push = λ lo es y. member-held x safe _ (wrapped _ (z refl _ _ es (as-row (y .stack))) r);
+    })
 
 module _ (e : Sheet) (d : ℕ) (wholes : (lambda : Bool) → Sound e (Value (e .text) (Whole lambda)) (expr (levels e d) lambda)) where
-  -- the macro member_expr, word by word
-  abbrev MemberFrom : ℕ → Claim ℕ
-  MemberFrom which = Seq Bumped (λ _. Seq (Ate kind.Pound) (λ b. If b (If (ltb 0 which) (Gave 0) (Seq (Took kind.CloseBracket) (λ _. Gave 0)))
-      (If (ltb 0 which) (Value (e .text) Ident) (Seq (Value (e .text) (Whole true)) (λ link. Seq (Took kind.CloseBracket) (λ _. Gave link))))))
+  -- the macro member_expr, word by word: how the property is read, and what closes it
+  module _ (from : ℕ) (safe : Ranged) (x : Expr) where
+    abbrev MemberFrom : ℕ → ℕ → Claim ℕ → Claim (Unit {0}) → Claim (Next Expr)
+    MemberFrom named meta X Z = Seq Bumped (λ _. Seq (Ate kind.Pound) (λ b. If b (Seq Z (λ _. MemberRecord from safe meta x 0)) (Seq X (λ link. Seq Z (λ _. MemberRecord from safe named x link)))))
 
-  member-sound : (which : ℕ) → Sound e (MemberFrom which) (member-rule (levels e d) which)
-  unfolding member-rule metaEnd
-  member-sound which = binds e (bump-sound e) (λ _. binds e (eat-sound e kind.Pound) (λ b. ifs e b (ifs e (ltb 0 which) (gives e) (binds e (expect-sound e kind.CloseBracket) (λ _. gives e)))
-      (ifs e (ltb 0 which) (ident-sound e) (binds e (wholes true) (λ link. binds e (expect-sound e kind.CloseBracket) (λ _. gives e))))))
+    member-sound : (named meta : ℕ) {X : Claim ℕ} {Z : Claim (Unit {0})} {property : Rule ℕ} {closing : Rule (Unit {0})} → Sound e X property → Sound e Z closing → Sound e (MemberFrom named meta X Z) (memberExpr (levels e d) from safe x named meta property closing)
+    member-sound named meta y z = binds e (bump-sound e) (λ _. binds e (eat-sound e kind.Pound) (λ b. ifs e b
+        (binds e z (λ _. member-record-sound e from safe meta x noLink)) (binds e y (λ link. binds e z (λ _. member-record-sound e from safe named x link)))))
 
-  bracket-read : {p : Place} {n a : ℕ} {xs : List ℕ} {v : Spot} → Here kind.OpenBracket p → MemberFrom 0 (at p n xs) v a → Membered (e .text) 0 (at p n xs) v a
-  unfolding shape
-  bracket-read h (bumped t ▸ yes-ate c ▸ took z ▸ gave) = meta (bracket-meta (record { here = h .stands; next = t }) c z) refl
-  bracket-read h (bumped t ▸ not-ate c ▸ value b s f ▸ took z ▸ gave) = named (value (bracket (record { here = h .stands; next = t }) b z) s f)
+    abbrev Bracketed : Claim (Next Expr)
+    Bracketed = MemberFrom members.Bracket members.BracketMeta (Value (e .text) (Whole true)) (Took kind.CloseBracket)
 
-  dot-read : {p : Place} {n a : ℕ} {xs : List ℕ} {v : Spot} → Here kind.Dot p → MemberFrom 1 (at p n xs) v a → Membered (e .text) 1 (at p n xs) v a
-  unfolding shape
-  dot-read h (bumped t ▸ yes-ate c ▸ gave) = meta (dot-meta (record { here = h .stands; next = t }) c) refl
-  dot-read h (bumped t ▸ not-ate c ▸ value b s f) = named (value (dot (record { here = h .stands; next = t }) b) s f)
+    abbrev Dotted : Claim (Next Expr)
+    Dotted = MemberFrom members.Dot members.DotMeta (Value (e .text) Ident) (Gave tt)
 
-  colons-read : {p : Place} {n a : ℕ} {xs : List ℕ} {v : Spot} → Here kind.DoubleColon p → MemberFrom 2 (at p n xs) v a → Membered (e .text) 2 (at p n xs) v a
-  unfolding shape
-  colons-read h (bumped t ▸ yes-ate c ▸ gave) = meta (double-colon-meta (record { here = h .stands; next = t }) c) refl
-  colons-read h (bumped t ▸ not-ate c ▸ value b s f) = named (value (double-colon (record { here = h .stands; next = t }) b) s f)
+    abbrev Coloned : Claim (Next Expr)
+    Coloned = MemberFrom members.DoubleColon members.DoubleColonMeta (Value (e .text) Ident) (Gave tt)
 
-  -- a member, where one stands here
-  abbrev Accessing : ℕ → Expr → Ranged → Claim (Next Expr)
-  Accessing from x safe = Seq (Picked memberChain 0) (λ which. If (ltb 2 which) (If (isEnded safe) Nothing (Gave (stop x))) (Seq (MemberFrom which) (λ link. MemberRecord from safe which x link)))
+    -- a member, where one stands here
+    abbrev Accessing : Claim (Next Expr)
+    Accessing = Way kind.OpenBracket Bracketed (Way kind.Dot Dotted (Way kind.DoubleColon Coloned (If (isEnded safe) Nothing (Gave (stop x)))))
+
+    bracket-sound : Sound e Bracketed (bracketMember (levels e d) from safe x)
+    unfolding bracketMember
+    bracket-sound = member-sound members.Bracket members.BracketMeta (wholes true) (expect-sound e kind.CloseBracket)
+
+    dot-sound : Sound e Dotted (dotMember (levels e d) from safe x)
+    unfolding dotMember
+    dot-sound = member-sound members.Dot members.DotMeta (ident-sound e) (gives e)
+
+    colons-sound : Sound e Coloned (doubleColonMember (levels e d) from safe x)
+    unfolding doubleColonMember
+    colons-sound = member-sound members.DoubleColon members.DoubleColonMeta (ident-sound e) (gives e)
+
+    none-sound : Sound e (If (isEnded safe) Nothing (Gave (stop x))) (noMember e safe x)
+    unfolding noMember
+    none-sound = ifs e (isEnded safe) (unexpected-sound e) (gives e)
 
   abbrev pub Accessed : ℕ → Expr → Claim (Next Expr)
-  Accessed from x = Seq (Ranges kind.Question) (λ safe. Accessing from x safe)
+  Accessed from x = Seq (Ranges kind.Question) (λ safe. Accessing from safe x)
 
   pub access-sound : (from : ℕ) (x : Expr) → Sound e (Accessed from x) (access (levels e d) from x)
-  unfolding access noMember
-  access-sound from x = binds e (eat-range-sound e kind.Question (λ q. omega (arith, q))) (λ safe. binds e (pick-sound e memberChain 0) (λ which. ifs e (ltb 2 which)
-      (ifs e (isEnded safe) (unexpected-sound e) (gives e)) (binds e (member-sound which) (λ link. member-record-sound e from safe which x link))))
+  unfolding access
+  access-sound from x = binds e (eat-range-sound e kind.Question (λ q. omega (arith, q))) (λ safe. chooses e (memberCases (levels e d) from safe x) (way e (bracket-sound from safe x) (way e (dot-sound from safe x) (way e (colons-sound from safe x) (otherwise e (none-sound from safe x))))))
 
   module _ (lambda : Bool) (from : ℕ) (x : Expr) where
-    -- one of the three, by its opening token; none where the chain is over
-    one-of-three : {o p : Place} {n : ℕ} {xs : List ℕ} {v : Spot} {b : Next Expr} (safe : Ranged)
-        → ((k link : ℕ) (q : Place) (d : Derives (e .text) (Member k) p q) → Post (e .text) lambda from (formOf x) (formOf (memberOf x safe link)) o q (λ so. memberOver from q safe k so (shape d 0 blank)))
-        → (Not kind.OpenBracket p → Not kind.Dot p → Not kind.DoubleColon p → If (isEnded safe) Nothing (Gave (stop x)) (at p n xs) v b → PostTurn (e .text) lambda from x (at o n xs) v b)
-        → Accessing from x safe (at p n xs) v b → PostTurn (e .text) lambda from x (at o n xs) v b
-    one-of-three safe post over (this-one h ▸ m ▸ c) = member-goes (e .text) lambda from x safe 0 (omega arith) post (bracket-read h m) c
-    one-of-three safe post over (later-one i (this-one h) ▸ m ▸ c) = member-goes (e .text) lambda from x safe 1 (omega arith) post (dot-read h m) c
-    one-of-three safe post over (later-one i (later-one j (this-one h)) ▸ m ▸ c) = member-goes (e .text) lambda from x safe 2 (omega arith) post (colons-read h m) c
-    one-of-three safe post over (later-one i (later-one j (later-one k none-of)) ▸ c) = over i j k c
+    -- the productions of a member, behind `?` or not
+    abbrev Productions : Ranged → Place → Place → Type 0
+    Productions safe o p = (k link : ℕ) (q : Place) (d : Derives (e .text) (Member k) p q) → Post (e .text) lambda from (formOf x) (formOf (memberOf x safe link)) o q (λ so. memberOver from q safe k so (shape d 0 blank))
+
+    module _ {o p : Place} (safe : Ranged) (post : Productions safe o p) where
+      bracket-read : {n : ℕ} {xs : List ℕ} {v : Spot} {b : Next Expr} → Here kind.OpenBracket p → Bracketed from safe x (at p n xs) v b → PostTurn (e .text) lambda from x (at o n xs) v b
+      unfolding shape
+      bracket-read h (bumped t ▸ yes-ate c ▸ took z ▸ r) = meta-goes (e .text) lambda from x safe members.BracketMeta (post members.BracketMeta) (bracket-meta (record { here = h .stands; next = t }) c z) refl r
+      bracket-read h (bumped t ▸ not-ate c ▸ value b s f ▸ took z ▸ r) = named-goes (e .text) lambda from x safe members.Bracket (post members.Bracket) (value (bracket (record { here = h .stands; next = t }) b z) s f) r
+
+      dot-read : {n : ℕ} {xs : List ℕ} {v : Spot} {b : Next Expr} → Here kind.Dot p → Dotted from safe x (at p n xs) v b → PostTurn (e .text) lambda from x (at o n xs) v b
+      unfolding shape
+      dot-read h (bumped t ▸ yes-ate c ▸ gave ▸ r) = meta-goes (e .text) lambda from x safe members.DotMeta (post members.DotMeta) (dot-meta (record { here = h .stands; next = t }) c) refl r
+      dot-read h (bumped t ▸ not-ate c ▸ value b s f ▸ gave ▸ r) = named-goes (e .text) lambda from x safe members.Dot (post members.Dot) (value (dot (record { here = h .stands; next = t }) b) s f) r
+
+      colons-read : {n : ℕ} {xs : List ℕ} {v : Spot} {b : Next Expr} → Here kind.DoubleColon p → Coloned from safe x (at p n xs) v b → PostTurn (e .text) lambda from x (at o n xs) v b
+      unfolding shape
+      colons-read h (bumped t ▸ yes-ate c ▸ gave ▸ r) = meta-goes (e .text) lambda from x safe members.DoubleColonMeta (post members.DoubleColonMeta) (double-colon-meta (record { here = h .stands; next = t }) c) refl r
+      colons-read h (bumped t ▸ not-ate c ▸ value b s f ▸ gave ▸ r) = named-goes (e .text) lambda from x safe members.DoubleColon (post members.DoubleColon) (value (double-colon (record { here = h .stands; next = t }) b) s f) r
+
+      -- one of the three, by its opening token; none where the chain is over
+      one-of-three : {n : ℕ} {xs : List ℕ} {v : Spot} {b : Next Expr}
+          → (Not kind.OpenBracket p → Not kind.Dot p → Not kind.DoubleColon p → If (isEnded safe) Nothing (Gave (stop x)) (at p n xs) v b → PostTurn (e .text) lambda from x (at o n xs) v b)
+          → Accessing from safe x (at p n xs) v b → PostTurn (e .text) lambda from x (at o n xs) v b
+      one-of-three over (this-one h c) = bracket-read h c
+      one-of-three over (later-one i (this-one h c)) = dot-read h c
+      one-of-three over (later-one i (later-one j (this-one h c))) = colons-read h c
+      one-of-three over (later-one i (later-one j (later-one k c))) = over i j k c
 
     pub access-read : {p : Place} {n : ℕ} {xs : List ℕ} {v : Spot} {b : Next Expr} → Not kind.OpenParen p → NoLambda lambda p → Accessed from x (at p n xs) v b → PostTurn (e .text) lambda from x (at p n xs) v b
     access-read o l (ranges {p = p} t ▸ c) = one-of-three (ranged.At (spanOf p)) (λ k link q d. safe-post (e .text) lambda from x link t d) (λ _ _ _ q. absurd q) c

@@ -15,7 +15,8 @@ use Rattle.cursor.proofs.Laws.{join-none}
 use Rattle.cursor.proofs.Grows.{begin, as-row}
 use Rattle.types.specs.declared.items.Items.{Items as Row}
 use Rattle.types.specs.Items.{isEnded}
-use Rattle.types.specs.Patterns.{patternEnd, patternLast, tablePatternPair, patternItem, patternItems, patternRow, patternChain, patternBy, pattern, patterns}
+use Rattle.types.specs.ItemRules as items
+use Rattle.types.specs.Patterns.{patternEnd, patternLast, tablePatternPair, patternItem, patternItems, patternRow, patternCases, pattern, patterns}
 use Rattle.types.specs.Patterns.{spanOf as rangeOf}
 use Rattle.types.proofs.PatternKeeps.{pattern-items-take}
 use Rattle.grammar.specs.Places.{Place, spanOf, startOf, Here}
@@ -24,7 +25,7 @@ use Rattle.grammar.specs.Derives.{dots, pattern-name, pattern-table, pattern-li
 use Rattle.grammar.specs.Builders.{Shape, couple}
 use Rattle.grammar.specs.Shape.{shape}
 use Rattle.sound.proofs.Sound.{Spot, at, Claim, Seq, _▸_, Gave, gave, Sound, gives, refuses, maps, reads, binds}
-use Rattle.sound.proofs.SoundSteps.{Bumped, bumped, Took, took, Picked, none-of, this-one, later-one, bump-sound, expect-sound, pick-sound, span-place}
+use Rattle.sound.proofs.SoundSteps.{Bumped, bumped, Took, took, Way, this-one, later-one, bump-sound, expect-sound, way, otherwise, chooses, span-place}
 use Rattle.sound.proofs.SoundValues.{Value, value, wrapped, relabel, retree, Started, started, labelled, Closed, closed, Paired, paired, start-sound, close-sound, pair-sound, ident-sound, lit-sound}
 use Rattle.sound.proofs.SoundItems.{Rowed, Listed, listed, Ended, ended-by, Given, given, list-flags, items-sound}
 
@@ -56,18 +57,13 @@ module _ (e : Sheet) (d : ℕ) (inner : Sound e (Value (e .text) Pattern) (patte
   abbrev RowOf : Sym → ℕ → ℕ → Claim ℕ
   RowOf z k from = Seq Bumped (λ _. Seq (Listed (e .text) z noKids) (λ i. Closed k from (rangeOf (i .ended) .start) (rangeOf (i .ended) .end) (flagged (i .kids .count) 0 (isEnded (i .ended)) false) (i .kids .first)))
 
-  abbrev By : ℕ → ℕ → Claim ℕ
-  By from zero = Value (e .text) Ident
-  By from (suc zero) = RowOf (Until PatternPair Dots kind.CloseBrace) node.PatternTable from
-  By from (suc (suc zero)) = RowOf (Until Pattern Dots kind.CloseBracket) node.PatternList from
-  By from (suc (suc (suc n))) = Value (e .text) Lit
+  table-sound : (from : ℕ) → Sound e (RowOf (Until PatternPair Dots kind.CloseBrace) node.PatternTable from) (patternRow e (patterns e d) from items.Pairs node.PatternTable)
+  unfolding patternRow
+  table-sound from = binds e (bump-sound e) (λ _. binds e (pairs-list noKids) (λ i. close-sound e node.PatternTable from _ _ _ (i .kids .first)))
 
-  by-sound : (from which : ℕ) → Sound e (By from which) (patternBy e (patterns e d) from which)
-  unfolding patternBy patternRow
-  by-sound from zero = ident-sound e
-  by-sound from (suc zero) = binds e (bump-sound e) (λ _. binds e (pairs-list noKids) (λ i. close-sound e node.PatternTable from _ _ _ (i .kids .first)))
-  by-sound from (suc (suc zero)) = binds e (bump-sound e) (λ _. binds e (patterns-list noKids) (λ i. close-sound e node.PatternList from _ _ _ (i .kids .first)))
-  by-sound from (suc (suc (suc n))) = lit-sound e
+  row-sound : (from : ℕ) → Sound e (RowOf (Until Pattern Dots kind.CloseBracket) node.PatternList from) (patternRow e (patterns e d) from items.Patterns node.PatternList)
+  unfolding patternRow
+  row-sound from = binds e (bump-sound e) (λ _. binds e (patterns-list noKids) (λ i. close-sound e node.PatternList from _ _ _ (i .kids .first)))
 
   -- the label of such a record, as the shape has it
   row-label : {ys : List ℕ} {m lo : ℕ} {i : Row} {f : Shape} {es : _} (k from : ℕ) (q : Place) → Rowed ys m lo i f es
@@ -86,7 +82,7 @@ module _ (e : Sheet) (d : ℕ) (inner : Sound e (Value (e .text) Pattern) (patte
 
   pub pattern-sound : Sound e (Value (e .text) Pattern) (pattern e (patterns e d))
   unfolding pattern shape
-  pattern-sound = maps e (λ u v a c. go c) (binds e (start-sound e) (λ from. binds e (pick-sound e (patternChain e) 0) (λ which. by-sound from which)))
+  pattern-sound = maps e (λ u v a c. go c) (binds e (start-sound e) (λ from. chooses e (patternCases e (patterns e d) from) (way e (ident-sound e) (way e (table-sound from) (way e (row-sound from) (otherwise e (lit-sound e)))))))
     where
       named-read : {u v : Spot} {a : ℕ} → Value (e .text) Ident u v a → Value (e .text) Pattern u v a
       named-read (value d s f) = value (pattern-name d) s f
@@ -94,11 +90,12 @@ module _ (e : Sheet) (d : ℕ) (inner : Sound e (Value (e .text) Pattern) (patte
       literal-read : {u v : Spot} {a : ℕ} → Value (e .text) Lit u v a → Value (e .text) Pattern u v a
       literal-read (value d s f) = value (pattern-literal d) s f
 
-      go : {u v : Spot} {a : ℕ} → Seq Started (λ from. Seq (Picked (patternChain e) 0) (λ which. By from which)) u v a → Value (e .text) Pattern u v a
-      go (started ▸ this-one h ▸ c) = named-read c
-      go (started ▸ later-one _ (this-one h) ▸ c) = table-read h c
-      go (started ▸ later-one _ (later-one _ (this-one h)) ▸ c) = list-read h c
-      go (started ▸ later-one _ (later-one _ (later-one _ none-of)) ▸ c) = literal-read c
+      go : {u v : Spot} {a : ℕ} → Seq Started (λ from. Way kind.Ident (Value (e .text) Ident) (Way kind.OpenBrace (RowOf (Until PatternPair Dots kind.CloseBrace) node.PatternTable from)
+          (Way kind.OpenBracket (RowOf (Until Pattern Dots kind.CloseBracket) node.PatternList from) (Value (e .text) Lit)))) u v a → Value (e .text) Pattern u v a
+      go (started ▸ this-one h c) = named-read c
+      go (started ▸ later-one _ (this-one h c)) = table-read h c
+      go (started ▸ later-one _ (later-one _ (this-one h c))) = list-read h c
+      go (started ▸ later-one _ (later-one _ (later-one _ c))) = literal-read c
 
 -- parse_pattern, with so many levels left
 pub patterns-sound : (e : Sheet) (d : ℕ) → Sound e (Value (e .text) Pattern) (patterns e d)

@@ -30,7 +30,7 @@ use Rattle.rules.specs.Atoms.{atom, primary}
 use Rattle.rules.specs.Levels.{levels}
 use Rattle.rules.proofs.Takes.{postfix-turn-takes}
 use Rattle.grammar.specs.Places.{Place, Tok, Here}
-use Rattle.grammar.specs.Symbols.{Until, NoLast, Body, Block, Atom, Primary, Posts, Expr as Whole}
+use Rattle.grammar.specs.Symbols.{Until, NoLast, Exprs, Block, Atom, Primary, Posts, Expr as Whole}
 use Rattle.grammar.specs.Derives.{Derives, NoLambda, no-brace, not-taken, primary-of, call, call-lambda, lambda-alone}
 use Rattle.grammar.specs.Builders.{blank, only, some, made, callOver, covered}
 use Rattle.grammar.specs.Shape.{shape}
@@ -142,7 +142,7 @@ module _ (text : List ℕ) (from : ℕ) (x : Expr) where
         push = λ lo es y. w lo _ _ 0 i (tree l ks) js es refl refl (g _ (as-row (y .stack)));
       })
 
-module _ (e : Sheet) (d : ℕ) (wholes : (lambda : Bool) → Sound e (Value (e .text) (Whole lambda)) (expr (levels e d) lambda)) (bodies : (end : ℕ) → Sound e (Rowing (e .text) (Body end) noKids) (levels e d .body end)) where
+module _ (e : Sheet) (d : ℕ) (wholes : (lambda : Bool) → Sound e (Value (e .text) (Whole lambda)) (expr (levels e d) lambda)) (bodies : (end : ℕ) → Sound e (Rowing (e .text) (Exprs end) noKids) (levels e d .exprs end)) where
   -- a trailing lambda; the kind Closure is 36, and the kind over a block is handed over as the number before it
   closure-sound : Sound e (Lambda (e .text)) (block (levels e d) node.Closure)
   closure-sound = covered-sound e d bodies 35

@@ -25,10 +25,9 @@ use Rattle.cursor.specs.Visits.{uses}
 use Rattle.cursor.proofs.Once.{built-once}
 use Rattle.cursor.proofs.Grows.{begin}
 use Rattle.types.specs.Items.{start}
-use Rattle.rules.specs.Body.{body}
 use Rattle.rules.specs.Levels.{levels, programRecord, program}
 use Rattle.grammar.specs.Places.{Place, opening}
-use Rattle.grammar.specs.Symbols.{Body}
+use Rattle.grammar.specs.Symbols.{Exprs}
 use Rattle.grammar.specs.Derives.{Derives}
 use Rattle.grammar.specs.Builders.{blank}
 use Rattle.grammar.specs.Shape.{shape}
@@ -52,7 +51,7 @@ data Sealed (from : ℕ) (row : Kids) : Spot → Spot → ℕ → Type 0 where
 
 -- what a sheet is read as, between two places, in a buffer of so many records
 record SheetOn (e : Sheet) (p q : Place) (ys : List ℕ) (m : ℕ) : Type 0 where
-  der : Derives (e .text) (Body kind.Eof) p q
+  der : Derives (e .text) (Exprs kind.Eof) p q
   root : ℕ
   is : m ≡ suc root
   tree-is : meaning ys root ≡ programOver (opening (e .tokens)) q (shape der 0 blank)
@@ -73,7 +72,7 @@ module _ (e : Sheet) where
       go : {p : Place} {n a : ℕ} {xs : List ℕ} {v : Spot} → Appended (programLabel from p (flagged (row .count) 0 false false)) (row .first) (at p n xs) v a → Sealed from row (at p n xs) v a
       go (appended r) = sealed r
 
-  sheet-read : {p q : Place} {m link : ℕ} {xs ys zs : List ℕ} → Agree ys zs 0 m (nodeWords * m) → length zs ≡ length ys → Seq (Rowing (e .text) (Body kind.Eof) noKids) (λ row. Sealed (opening (e .tokens)) row) (at p 0 xs) (at q m ys) link → SheetOn e p q zs m
+  sheet-read : {p q : Place} {m link : ℕ} {xs ys zs : List ℕ} → Agree ys zs 0 m (nodeWords * m) → length zs ≡ length ys → Seq (Rowing (e .text) (Exprs kind.Eof) noKids) (λ row. Sealed (opening (e .tokens)) row) (at p 0 xs) (at q m ys) link → SheetOn e p q zs m
   sheet-read {q = q} {m = m} same long (listed d f ▸ sealed {n = n} r) =
       let g = f 0 0 none [] refl (begin (bottom {hi = 0} (omega arith))) in
       let st = keep (relabel (ap (λ z. programLabel (opening (e .tokens)) q z) (word-flags _ false false (g .count))) (wrapped _ (g .stack) r)) same (le-refl _) long in

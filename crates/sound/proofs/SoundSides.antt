@@ -82,12 +82,12 @@ module _ (e : Sheet) where
 
   abbrev LeftOf : Kids → Ranged → Claim (Next Kids)
   LeftOf kids ranged.Nowhere = Gave (stop kids)
-  LeftOf kids (ranged.At comma) = Seq (Expressed (e .text) (Prec 0 true)) (λ x. JoinedTo kids x)
+  LeftOf kids (ranged.At comma) = Seq (Expressed (e .text) (Prec 1 true)) (λ x. JoinedTo kids x)
 
   abbrev pub LeftTurn : Kids → Claim (Next Kids)
   LeftTurn kids = Seq (Ranges kind.Comma) (λ comma. LeftOf kids comma)
 
-  module _ (d : ℕ) (prec : (n : ℕ) (lambda : Bool) → Sound e (Expressed (e .text) (Prec n lambda)) (levels e d .prec (n + 1) lambda)) where
+  module _ (d : ℕ) (prec : (n : ℕ) (lambda : Bool) → Sound e (Expressed (e .text) (Prec (n + 1) lambda)) (levels e d .prec (n + 1) lambda)) where
     left-of-sound : (comma : Ranged) (kids : Kids) → Sound e (LeftOf kids comma) (leftOf (levels e d) comma kids)
     unfolding leftOf
     left-of-sound ranged.Nowhere kids = gives e
@@ -100,7 +100,7 @@ module _ (e : Sheet) where
     unfolding lefts leftTurn
     lefts-sound kids = loops e (left-turn-takes e d) (λ k. binds e (eat-range-sound e kind.Comma (λ q. omega (arith, q))) (λ comma. left-of-sound comma k)) kids
 
-  and-left : {f : Form} {p q r : Place} {n m a last : ℕ} {xs ys : List ℕ} {l : Label} {ks : Trees} {v : Spot} {k : Kids} (kids : Kids) → Tok kind.Comma p q → (d : Derives (e .text) (Prec 0 true f) q r) → Assignable f → shape d 0 blank ≡ only (tree l ks)
+  and-left : {f : Form} {p q r : Place} {n m a last : ℕ} {xs ys : List ℕ} {l : Label} {ks : Trees} {v : Spot} {k : Kids} (kids : Kids) → Tok kind.Comma p q → (d : Derives (e .text) (Prec 1 true f) q r) → Assignable f → shape d 0 blank ≡ only (tree l ks)
       → ((es : List Entry) → Stack xs n es → Stack ys m (whole n a last l ks ∷ es)) → Lefted (e .text) (added kids a) (at r m (linked ys (kids .last) a)) v k → Lefted (e .text) kids (at p n xs) v k
   unfolding shape
   and-left {a = a} {k = k} kids t d h s f (lefted {n = n} o (listed b g)) =

@@ -15,9 +15,9 @@ use Rattle.cursor.specs.declared.Ranged.{Ranged}
 use Rattle.cursor.specs.declared.Ranged.the-variants as ranged
 use Rattle.cursor.specs.Layout.{nodeWords, nodeLimit}
 use Rattle.cursor.specs.Sheet.{Sheet, count, kindAt, rangeAt}
-use Rattle.cursor.specs.Rule.{World, Next, more, stop}
+use Rattle.cursor.specs.Rule.{World, Rule, Next, more, stop}
 use Rattle.cursor.specs.Tokens.{pastTrivia, eatTrivia, bump, eolTurn, eatEol}
-use Rattle.cursor.specs.Checks.{liveRoom, want, check, eat, unexpected, expect, eatRange, pickFrom}
+use Rattle.cursor.specs.Checks.{liveRoom, want, check, eat, unexpected, expect, eatRange, Case, _⇒_, choose}
 use Rattle.cursor.specs.Records.{write, append, add, reflag}
 use Rattle.cursor.proofs.Ends.{well, ill, cut, branch, weaken}
 use Rattle.cursor.proofs.TokenPaths.{there, range-in, eol-takes}
@@ -53,11 +53,10 @@ pub data Saw (k : ℕ) : Spot → Spot → Bool → Type 0 where
   yes-saw : {p : Place} {n : ℕ} {xs : List ℕ} → Here k p → Saw k (at p n xs) (at p n xs) true
   not-saw : {p : Place} {n : ℕ} {xs : List ℕ} → Not k p → Saw k (at p n xs) (at p n xs) false
 
--- which of these is it? None of those before it
-pub data Picked : List ℕ → ℕ → Spot → Spot → ℕ → Type 0 where
-  none-of : {x : Spot} {i : ℕ} → Picked [] i x x i
-  this-one : {p : Place} {n k i : ℕ} {xs ks : List ℕ} → Here k p → Picked (k ∷ ks) i (at p n xs) (at p n xs) i
-  later-one : {p : Place} {n k i j : ℕ} {xs ks : List ℕ} {y : Spot} → Not k p → Picked ks (i + 1) (at p n xs) y j → Picked (k ∷ ks) i (at p n xs) y j
+-- a chain of checks: where this kind stands here the one, and where it does not the other
+pub data Way {A : Type 0} (k : ℕ) (X Y : Claim A) : Spot → Spot → A → Type 0 where
+  this-one : {p : Place} {n : ℕ} {xs : List ℕ} {v : Spot} {a : A} → Here k p → X (at p n xs) v a → Way k X Y (at p n xs) v a
+  later-one : {p : Place} {n : ℕ} {xs : List ℕ} {v : Spot} {a : A} → Not k p → Y (at p n xs) v a → Way k X Y (at p n xs) v a
 
 -- past all Eols
 pub data Lined (text : List ℕ) : Spot → Spot → Unit {0} → Type 0 where
@@ -182,17 +181,24 @@ module _ (e : Sheet) where
       go {p} {m} {xs} f (yes-saw h ▸ bumped {q = q} t ▸ gave) = subst (λ z. Ranges k (at p m xs) (at q m xs) z) (sym (f (h .stands))) (ranges (record { here = h .stands; next = t }))
       go f (not-saw h ▸ gave) = no-range h
 
-  pub pick-sound : (ks : List ℕ) (i : ℕ) → Sound e (Picked ks i) (pickFrom e ks i)
-  unfolding pickFrom
-  pick-sound [] i = maps e (λ x y b c. go c) (gives e)
+  -- what a chain of checks claims: of its first way and of the others, and where there is none, of what is left
+  pub record Chain {A : Type 0} (X : Claim A) (cases : List (Case A)) (other : Rule A) : Type 0 where
+    pub sound : Sound e X (choose e cases other)
+
+  pub way : {A : Type 0} {X Y : Claim A} {k : ℕ} {r other : Rule A} {cases : List (Case A)} → Sound e X r → Chain Y cases other → Chain (Way k X Y) ((k ⇒ r) ∷ cases) other
+  unfolding choose
+  way {A} {X} {Y} {k} x y = record { sound = maps e (λ u v a c. go c) (binds e (check-sound k) (λ here. ifs e here x (y .sound))) }
     where
-      go : {x y : Spot} {j : ℕ} → Gave i x y j → Picked [] i x y j
-      go gave = none-of
-  pick-sound (k ∷ ks) i = maps e (λ x y b c. go c) (binds e (check-sound k) (λ here. ifs e here (gives e) (pick-sound ks (i + 1))))
-    where
-      go : {x y : Spot} {j : ℕ} → Seq (Saw k) (λ here. If here (Gave i) (Picked ks (i + 1))) x y j → Picked (k ∷ ks) i x y j
-      go (yes-saw h ▸ gave) = this-one h
-      go (not-saw h ▸ r) = later-one h r
+      go : {u v : Spot} {a : A} → Seq (Saw k) (λ here. If here X Y) u v a → Way k X Y u v a
+      go (yes-saw h ▸ c) = this-one h c
+      go (not-saw h ▸ c) = later-one h c
+
+  pub otherwise : {A : Type 0} {X : Claim A} {other : Rule A} → Sound e X other → Chain X [] other
+  unfolding choose
+  otherwise x = record { sound = x }
+
+  pub chooses : {A : Type 0} {X : Claim A} (cases : List (Case A)) {other : Rule A} → Chain X cases other → Sound e X (choose e cases other)
+  chooses cases x = x .sound
 
   -- Eols: each turn takes one, or none stands here
   eol-sound : (a : Unit {0}) → Sound e (λ x y n. EolTurn x y n) (eolTurn e a)

@@ -25,8 +25,8 @@ use Rattle.rules.specs.Levels.{levels}
 use Rattle.rules.specs.Tables.{key, property as property-rule, item, itemsOf, table as table-rule, braceBlock, tableOrBlock, brace}
 use Rattle.rules.proofs.Takes.{until-turn-takes}
 use Rattle.grammar.specs.Places.{Place, startOf, Tok, Here}
-use Rattle.grammar.specs.Symbols.{Other, Eols, Until, NoLast, Lit, Body, Atom, Key, Property, Expr as Whole}
-use Rattle.grammar.specs.Derives.{Derives, until-of, items-end, items-final, items-comma, table, block-expr, property, group-key, literal-key}
+use Rattle.grammar.specs.Symbols.{Other, Eols, Until, NoLast, Lit, Exprs, Atom, Key, Property, Expr as Whole}
+use Rattle.grammar.specs.Derives.{Derives, until-of, items-end, items-final, items-comma, table, block-expr, property, paren-key, literal-key}
 use Rattle.grammar.specs.Builders.{blank, only, more as longer, over, couple, rowOver}
 use Rattle.grammar.specs.Shape.{shape}
 use Rattle.sound.proofs.Sound.{Spot, at, Claim, Seq, _▸_, Gave, gave, If, Else, stayed, undone, Sound, gives, maps, reads, ifs, binds, attempts}
@@ -55,7 +55,7 @@ module _ (e : Sheet) (d : ℕ) (exprs : (lambda : Bool) → Sound e (Value (e .t
     where
       go : {u v : Spot} {a : ℕ} → Seq Started (λ from. Seq (Ate kind.OpenParen) (λ b. If b (Seq (Value (e .text) (Whole true)) (λ link. Seq (Took kind.CloseParen) (λ _. Keyed from link))) (Seq (Value (e .text) Lit) (λ link. Seq (Took kind.Colon) (λ _. Gave link))))) u v a
           → Value (e .text) Key u v a
-      go (started {p = p} ▸ yes-ate t ▸ value b s f ▸ took c ▸ keyed {p = q} k o) = value (group-key t b c k) (λ i. over node.Paren (startOf p) q (s i)) (λ es st. wrapped _ (as-row (f es st)) o)
+      go (started {p = p} ▸ yes-ate t ▸ value b s f ▸ took c ▸ keyed {p = q} k o) = value (paren-key t b c k) (λ i. over node.Paren (startOf p) q (s i)) (λ es st. wrapped _ (as-row (f es st)) o)
       go (started ▸ not-ate n ▸ value b s f ▸ took c ▸ gave) = value (literal-key b c) s f
 
   -- parse_table_property
@@ -103,9 +103,9 @@ module _ (e : Sheet) (d : ℕ) (exprs : (lambda : Bool) → Sound e (Value (e .t
         let a = k _ 1 _ es refl (as-row (h _ _ _ _ _ _ es (g _ (as-row (f es st))))) in
         relabel (λ i. labelled node.Table (u i) 0 0 (word-flags _ false false (a .count) i) x) (wrapped _ (a .stack) m))
 
-  module _ (bodies : (end : ℕ) → Sound e (Rowing (e .text) (Body end) noKids) (levels e d .body end)) (kept : (s : State) → Keeps (mark s) Plain (key (levels e d))) where
+  module _ (bodies : (end : ℕ) → Sound e (Rowing (e .text) (Exprs end) noKids) (levels e d .exprs end)) (kept : (s : State) → Keeps (mark s) Plain (key (levels e d))) where
     abbrev BlockFrom : ℕ → ℕ → Claim ℕ
-    BlockFrom from inside = Seq (Rowing (e .text) (Body kind.CloseBrace) noKids) (λ k. Seq (Closed node.Block inside 0 0 (flagged (k .count) 0 false false) (k .first)) (λ link. Closed node.ExprBlock from 0 0 0 link))
+    BlockFrom from inside = Seq (Rowing (e .text) (Exprs kind.CloseBrace) noKids) (λ k. Seq (Closed node.Block inside 0 0 (flagged (k .count) 0 false false) (k .first)) (λ link. Closed node.ExprBlock from 0 0 0 link))
 
     -- behind the brace: nothing, a table, or where no key stands a block
     abbrev pub Braced : ℕ → Claim ℕ

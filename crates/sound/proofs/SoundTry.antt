@@ -4,7 +4,6 @@ use mathlib.Core.List.{List, [], _∷_}
 use mathlib.Core.Bool.{Bool, true, false, true≢false}
 use Prim.Native.Nat.{ℕ, zero, suc, _+_, _*_, _^_, _<_}
 use native.Mathlib.Omega.{arith}
-use lib.Dec.{ltb, eqb}
 use Rattle.kinds.specs.Number as kind
 use Rattle.cursor.specs.declared.Kids.{Kids}
 use Rattle.cursor.specs.declared.Label.{Label}
@@ -30,17 +29,17 @@ use Rattle.parts.specs.Values.{linkOf, rowOf}
 use Rattle.parts.specs.Records.{handlerRecord, handlersFlagged}
 use Rattle.rules.specs.Blocks.{block}
 use Rattle.rules.specs.Atoms.{primary}
-use Rattle.rules.specs.Precedence.{handler, handlerTurn, triedBy, tried as tried-rule, negated as negated-rule, unaryChain, unary}
+use Rattle.rules.specs.Precedence.{handler, handlerTurn, triedBy, tried as tried-rule, unaryOp as negated-rule, unaryCases, unary}
 use Rattle.rules.specs.Levels.{levels}
 use Rattle.rules.proofs.Takes.{handler-turn-takes}
 use Rattle.grammar.specs.Places.{Place, kindOf, startOf, Tok}
-use Rattle.grammar.specs.Symbols.{Call, Other, Ident, Block, Params, Unary, Handler, Handlers, Primary}
-use Rattle.grammar.specs.Derives.{Derives, negated, minus, tried, no-unary, last-handler, more-handlers, handler-of}
+use Rattle.grammar.specs.Symbols.{Call, Ident, Block, Params, Unary, Handler, Handlers, Primary}
+use Rattle.grammar.specs.Derives.{Derives, not-expr, neg-expr, tried, no-unary, last-handler, more-handlers, handler-of}
 use Rattle.grammar.specs.Builders.{Shape, blank, only, some, made, more as longer, handlerOver, handled}
 use Rattle.grammar.specs.Shape.{shape}
 use Rattle.sound.proofs.Links.{kind-place}
 use Rattle.sound.proofs.Sound.{Spot, at, Claim, Seq, _▸_, Gave, gave, answer, not-both, If, Nothing, Star, halt, turn, came-refl, Sound, gives, maps, reads, ifs, binds, loops}
-use Rattle.sound.proofs.SoundSteps.{Bumped, bumped, Took, took, Saw, yes-saw, not-saw, Picked, none-of, this-one, later-one, Added, added-to, Reflagged, flags-of, add-sound, reflag-sound, bump-sound, check-sound, expect-sound, pick-sound}
+use Rattle.sound.proofs.SoundSteps.{Bumped, bumped, Took, took, Saw, yes-saw, not-saw, Way, this-one, later-one, Added, added-to, Reflagged, flags-of, add-sound, reflag-sound, bump-sound, check-sound, expect-sound, way, otherwise, chooses}
 use Rattle.sound.proofs.SoundValues.{Value, value, wrapped, joined, relabel, retree, Started, started, labelled, Closed, closed, start-sound, close-sound, ident-sound}
 use Rattle.sound.proofs.SoundItems.{sofar, as-shape, Listed, listed, list-flags, word-more}
 use Rattle.sound.proofs.ListShape.{behind-none, params-behind}
@@ -192,23 +191,23 @@ module _ (e : Sheet) (d : ℕ) (blocks : Sound e (Value (e .text) Block) (block 
     negated-read : {p : Place} {n : ℕ} {xs : List ℕ} {v : Spot} {z : Expr} → kindOf p ≡ kind.Not → Negating (startOf p) (at p n xs) v z → Expressed (e .text) (Unary lambda) (at p n xs) v z
     unfolding shape
     negated-read {p} h (negating (bumped t ▸ expressed b s g ▸ closed {p = q} o ▸ gave)) =
-        expressed (negated (record { here = h; next = t }) b) (ap (λ z. made node.Unary (startOf p) q kind.Not 0 0 (z .row)) s) (λ es st. record { fits = fits-other; stack = relabel (ap (λ k. labelled node.Unary (startOf p) k 0 0 q) h) (wrapped _ (as-row (g es st .stack)) o) })
+        expressed (not-expr (record { here = h; next = t }) b) (ap (λ z. made node.Unary (startOf p) q kind.Not 0 0 (z .row)) s) (λ es st. record { fits = fits-other; stack = relabel (ap (λ k. labelled node.Unary (startOf p) k 0 0 q) h) (wrapped _ (as-row (g es st .stack)) o) })
 
     minus-read : {p : Place} {n : ℕ} {xs : List ℕ} {v : Spot} {z : Expr} → kindOf p ≡ kind.Sub → Negating (startOf p) (at p n xs) v z → Expressed (e .text) (Unary lambda) (at p n xs) v z
     unfolding shape
     minus-read {p} h (negating (bumped t ▸ expressed b s g ▸ closed {p = q} o ▸ gave)) =
-        expressed (minus (record { here = h; next = t }) b) (ap (λ z. made node.Unary (startOf p) q kind.Sub 0 0 (z .row)) s) (λ es st. record { fits = fits-other; stack = relabel (ap (λ k. labelled node.Unary (startOf p) k 0 0 q) h) (wrapped _ (as-row (g es st .stack)) o) })
+        expressed (neg-expr (record { here = h; next = t }) b) (ap (λ z. made node.Unary (startOf p) q kind.Sub 0 0 (z .row)) s) (λ es st. record { fits = fits-other; stack = relabel (ap (λ k. labelled node.Unary (startOf p) k 0 0 q) h) (wrapped _ (as-row (g es st .stack)) o) })
 
     -- parse_expr_unary
     pub unary-sound : Sound e (Expressed (e .text) (Unary lambda)) (unary (levels e d) lambda)
     unfolding unary shape
-    unary-sound = maps e (λ u v z c. go c) (binds e (start-sound e) (λ from. binds e (pick-sound e unaryChain 0) (λ which. ifs e (eqb which 2) tried-sound (ifs e (ltb 2 which) (primaries lambda) (negating-sound from)))))
+    unary-sound = maps e (λ u v z c. go c) (binds e (start-sound e) (λ from. chooses e (unaryCases (levels e d) from lambda) (way e (negating-sound from) (way e (negating-sound from) (way e tried-sound (otherwise e (primaries lambda)))))))
       where
         as-it-is : {u v : Spot} {z : Expr} → Expressed (e .text) (Primary lambda) u v z → Expressed (e .text) (Unary lambda) u v z
         as-it-is (expressed b s g) = expressed (no-unary b) s g
 
-        go : {u v : Spot} {z : Expr} → Seq Started (λ from. Seq (Picked unaryChain 0) (λ which. If (eqb which 2) Tried (If (ltb 2 which) (Expressed (e .text) (Primary lambda)) (Negating from)))) u v z → Expressed (e .text) (Unary lambda) u v z
-        go (started ▸ this-one h ▸ c) = negated-read (h .stands) c
-        go (started ▸ later-one _ (this-one h) ▸ c) = minus-read (h .stands) c
-        go (started ▸ later-one _ (later-one _ (this-one h)) ▸ c) = tried-read (h .stands) c
-        go (started ▸ later-one _ (later-one _ (later-one _ none-of)) ▸ c) = as-it-is c
+        go : {u v : Spot} {z : Expr} → Seq Started (λ from. Way kind.Not (Negating from) (Way kind.Sub (Negating from) (Way kind.Try Tried (Expressed (e .text) (Primary lambda))))) u v z → Expressed (e .text) (Unary lambda) u v z
+        go (started ▸ this-one h c) = negated-read (h .stands) c
+        go (started ▸ later-one _ (this-one h c)) = minus-read (h .stands) c
+        go (started ▸ later-one _ (later-one _ (this-one h c))) = tried-read (h .stands) c
+        go (started ▸ later-one _ (later-one _ (later-one _ c))) = as-it-is c

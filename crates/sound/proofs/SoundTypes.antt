@@ -3,9 +3,7 @@ use mathlib.Core.Path.{_≡_, refl, sym, ap}
 use mathlib.Core.List.{List, _∷_}
 use mathlib.Core.Bool.{true, false}
 use Prim.Native.Nat.{ℕ, zero, suc, _+_}
-use native.Mathlib.Omega.{arith}
 use lib.Dec.{ltb}
-use borrow.Author.Tests.{ne-eqb}
 use Rattle.kinds.specs.Number as kind
 use Rattle.cursor.specs.declared.Kids.{Kids}
 use Rattle.cursor.specs.declared.Label.{Label}
@@ -21,15 +19,15 @@ use Rattle.cursor.proofs.Stack.{Entry, whole, Stack}
 use Rattle.cursor.proofs.Grows.{begin, as-row}
 use Rattle.types.specs.declared.items.Items.{Items as Row}
 use Rattle.types.specs.Items.{so, isEnded}
-use Rattle.types.specs.Types.{ended, unionTurn, union as unionOf, type, returns, named, typedIdent, tableTyPair, tableTyOther, typeItem, typeEnd, typeLastItem, typeLast, typeItems, typeParen, typeTable, typeFunction, typeChain, typeBy, typeAtom, atoms, params, closureParams}
+use Rattle.types.specs.Types.{ended, unionTurn, union as unionOf, type, returns, named, typedIdent, tableTyPair, tableTyOther, typeItem, typeEnd, typeLastItem, typeLast, typeItems, typeParen, typeTable, typeFunction, typeCases, typeAtom, atoms, params, closureParams}
 use Rattle.types.proofs.TypeKeeps.{union-takes, type-items-take}
 use Rattle.grammar.specs.Places.{Place, startOf, after, Tok, Here}
 use Rattle.grammar.specs.Symbols.{Sym, Until, Rest, Lit, Ident, Ty, TyAtom, Bars, TyPair, Others, Returns, Typed, Params}
-use Rattle.grammar.specs.Derives.{Derives, rest-of, one-type, union, no-bar, a-bar, ty-paren, ty-name, ty-table, ty-function, ty-literal, ty-pair, others, no-type, returned, bare, typed, params-of, closure-params}
+use Rattle.grammar.specs.Derives.{Derives, rest-of, one-type, union, no-bar, a-bar, ty-paren, ty-name, ty-table, ty-function, ty-literal, ty-pair, others, no-type, returned, bare, typed-ident, params-of, closure-params}
 use Rattle.grammar.specs.Builders.{blank, only, more as longer, ending, marked, unmarked, over, couple, rowOver}
 use Rattle.grammar.specs.Shape.{shape}
 use Rattle.sound.proofs.Sound.{Spot, at, Claim, Seq, _▸_, Gave, gave, answer, not-both, If, Star, halt, turn, Sound, gives, refuses, maps, ifs, binds, loops}
-use Rattle.sound.proofs.SoundSteps.{Bumped, bumped, Took, took, Ate, yes-ate, not-ate, Saw, yes-saw, not-saw, Picked, none-of, this-one, later-one, Added, added-to, add-sound, bump-sound, check-sound, eat-sound, expect-sound, pick-sound}
+use Rattle.sound.proofs.SoundSteps.{Bumped, bumped, Took, took, Ate, yes-ate, not-ate, Saw, yes-saw, not-saw, Way, this-one, later-one, Added, added-to, add-sound, bump-sound, check-sound, eat-sound, expect-sound, way, otherwise, chooses}
 use Rattle.sound.proofs.SoundValues.{Value, Lastly, value, Optional, some-value, no-value, wrapped, joined, relabel, retree, Started, started, labelled, Closed, closed, Paired, paired, SomeAdded, start-sound, close-sound, pair-sound, add-some-sound, ident-sound, lit-sound}
 use Rattle.sound.proofs.SoundSignature.{Signed, signed-by, signed}
 use Rattle.sound.proofs.SoundItems.{sofar, as-shape, Listed, listed, Ended, ended-by, given-any, word-more, word-flags, list-flags, items-sound}
@@ -41,7 +39,7 @@ typed-sound e x ty sound = maps e (λ u v a c. go c) (binds e (start-sound e) (�
   where
     go : {u v : Spot} {a : ℕ} → Seq Started (λ from. Seq (Value (e .text) Ident) (λ name. Seq (Ate kind.Colon) (λ b. If b (Seq (Value (e .text) x) (λ t. Paired node.TypedIdent from name t)) (Gave name)))) u v a → Value (e .text) (Typed x) u v a
     go (started ▸ value d s f ▸ not-ate n ▸ gave) = value (bare d n) s f
-    go (started {p = p} ▸ value d s f ▸ yes-ate t ▸ value d2 s2 g ▸ paired {p = q} h) = value (typed d t d2) (λ i. couple node.TypedIdent (startOf p) q (s i) (s2 i)) (λ es st. h _ _ _ _ _ _ es (g _ (as-row (f es st))))
+    go (started {p = p} ▸ value d s f ▸ yes-ate t ▸ value d2 s2 g ▸ paired {p = q} h) = value (typed-ident d t d2) (λ i. couple node.TypedIdent (startOf p) q (s i) (s2 i)) (λ es st. h _ _ _ _ _ _ es (g _ (as-row (f es st))))
 
 module _ (e : Sheet) (d : ℕ) (atom : Sound e (Value (e .text) TyAtom) (atoms e d)) where
   abbrev UnionTurn : Kids → Claim (Next Kids)
@@ -176,20 +174,17 @@ module _ (e : Sheet) (d : ℕ) (atom : Sound e (Value (e .text) TyAtom) (atoms e
   Function from = Seq Bumped (λ _. Seq (Listed (e .text) (Until Ty (Rest Ty) kind.CloseParen) noKids) (λ i. Seq (Optional (e .text) Returns) (λ r. Seq (SomeAdded (i .kids) r) (λ kids.
       Closed node.TyFunction from 0 0 (flagged (i .kids .count) 0 (isEnded (i .ended)) (ltb 0 r)) (kids .first)))))
 
-  abbrev By : ℕ → ℕ → Claim ℕ
-  By from zero = Paren from
-  By from (suc zero) = Value (e .text) Ident
-  By from (suc (suc zero)) = Table from
-  By from (suc (suc (suc zero))) = Function from
-  By from (suc (suc (suc (suc n)))) = Value (e .text) Lit
+  paren-sound : (from : ℕ) → Sound e (Paren from) (typeParen e (atoms e d) from)
+  unfolding typeParen
+  paren-sound from = binds e (bump-sound e) (λ _. binds e type-sound (λ t. binds e (expect-sound e kind.CloseParen) (λ _. binds e (add-sound e noKids t) (λ kids. close-sound e node.TyParen from 0 0 0 (kids .first)))))
 
-  by-sound : (from which : ℕ) → Sound e (By from which) (typeBy e (atoms e d) from which)
-  unfolding typeBy typeParen typeTable typeFunction
-  by-sound from zero = binds e (bump-sound e) (λ _. binds e type-sound (λ t. binds e (expect-sound e kind.CloseParen) (λ _. binds e (add-sound e noKids t) (λ kids. close-sound e node.TyParen from 0 0 0 (kids .first)))))
-  by-sound from (suc zero) = ident-sound e
-  by-sound from (suc (suc zero)) = binds e (bump-sound e) (λ _. binds e (pairs-list noKids) (λ i. close-sound e node.TyTable from 0 0 _ (i .kids .first)))
-  by-sound from (suc (suc (suc zero))) = binds e (bump-sound e) (λ _. binds e (types-list noKids) (λ i. binds e returns-sound (λ r. binds e (add-some-sound e (i .kids) r) (λ kids. close-sound e node.TyFunction from 0 0 _ (kids .first)))))
-  by-sound from (suc (suc (suc (suc n)))) = record { ends = λ s w h. rw (ne-eqb (suc (suc (suc (suc n)))) 3 (omega arith), typeBy) (lit-sound e .ends s w h) }
+  table-sound : (from : ℕ) → Sound e (Table from) (typeTable e (atoms e d) from)
+  unfolding typeTable
+  table-sound from = binds e (bump-sound e) (λ _. binds e (pairs-list noKids) (λ i. close-sound e node.TyTable from 0 0 _ (i .kids .first)))
+
+  function-sound : (from : ℕ) → Sound e (Function from) (typeFunction e (atoms e d) from)
+  unfolding typeFunction
+  function-sound from = binds e (bump-sound e) (λ _. binds e (types-list noKids) (λ i. binds e returns-sound (λ r. binds e (add-some-sound e (i .kids) r) (λ kids. close-sound e node.TyFunction from 0 0 _ (kids .first)))))
 
   paren-read : {p : Place} {n a : ℕ} {xs : List ℕ} {v : Spot} → Here kind.OpenParen p → Paren (startOf p) (at p n xs) v a → Value (e .text) TyAtom (at p n xs) v a
   unfolding shape
@@ -213,7 +208,7 @@ module _ (e : Sheet) (d : ℕ) (atom : Sound e (Value (e .text) TyAtom) (atoms e
 
   pub type-atom-sound : Sound e (Value (e .text) TyAtom) (typeAtom e (atoms e d))
   unfolding typeAtom shape
-  type-atom-sound = maps e (λ u v a c. go c) (binds e (start-sound e) (λ from. binds e (pick-sound e (typeChain e) 0) (λ which. by-sound from which)))
+  type-atom-sound = maps e (λ u v a c. go c) (binds e (start-sound e) (λ from. chooses e (typeCases e (atoms e d) from) (way e (paren-sound from) (way e (ident-sound e) (way e (table-sound from) (way e (function-sound from) (otherwise e (lit-sound e))))))))
     where
       named-read : {u v : Spot} {a : ℕ} → Value (e .text) Ident u v a → Value (e .text) TyAtom u v a
       named-read (value d s f) = value (ty-name d) s f
@@ -221,12 +216,12 @@ module _ (e : Sheet) (d : ℕ) (atom : Sound e (Value (e .text) TyAtom) (atoms e
       literal-read : {u v : Spot} {a : ℕ} → Value (e .text) Lit u v a → Value (e .text) TyAtom u v a
       literal-read (value d s f) = value (ty-literal d) s f
 
-      go : {u v : Spot} {a : ℕ} → Seq Started (λ from. Seq (Picked (typeChain e) 0) (λ which. By from which)) u v a → Value (e .text) TyAtom u v a
-      go (started ▸ this-one h ▸ c) = paren-read h c
-      go (started ▸ later-one _ (this-one h) ▸ c) = named-read c
-      go (started ▸ later-one _ (later-one _ (this-one h)) ▸ c) = table-read h c
-      go (started ▸ later-one _ (later-one _ (later-one _ (this-one h))) ▸ c) = function-read h c
-      go (started ▸ later-one _ (later-one _ (later-one _ (later-one _ none-of))) ▸ c) = literal-read c
+      go : {u v : Spot} {a : ℕ} → Seq Started (λ from. Way kind.OpenParen (Paren from) (Way kind.Ident (Value (e .text) Ident) (Way kind.OpenBrace (Table from) (Way kind.Fn (Function from) (Value (e .text) Lit))))) u v a → Value (e .text) TyAtom u v a
+      go (started ▸ this-one h c) = paren-read h c
+      go (started ▸ later-one _ (this-one h c)) = named-read c
+      go (started ▸ later-one _ (later-one _ (this-one h c))) = table-read h c
+      go (started ▸ later-one _ (later-one _ (later-one _ (this-one h c)))) = function-read h c
+      go (started ▸ later-one _ (later-one _ (later-one _ (later-one _ c)))) = literal-read c
 
 -- parse_type_atom, with so many levels left
 pub atoms-sound : (e : Sheet) (d : ℕ) → Sound e (Value (e .text) TyAtom) (atoms e d)

@@ -10,8 +10,8 @@ use Rattle.kinds.specs.Number as kind
 use Rattle.kinds.specs.Kinds.{isTrivia}
 use Rattle.cursor.specs.Sheet.{count, kindAt}
 use Rattle.grammar.specs.Places.{Token, tokensOf, significant, Place, kindIn, past, kindOf, after, Tok, before}
-use Rattle.grammar.specs.Symbols.{Body, Stmts}
-use Rattle.grammar.specs.Derives.{Derives, body-of, no-stmt, last-stmt, a-line}
+use Rattle.grammar.specs.Symbols.{Exprs, Stmts}
+use Rattle.grammar.specs.Derives.{Derives, exprs-of, no-stmt, last-stmt, a-line}
 use Rattle.sound.proofs.Links.{token-at, token-past, in-range}
 use Rattle.sound.proofs.Ahead.{Ahead, _▹_, stays, over, ahead}
 
@@ -59,8 +59,8 @@ closing {p = p} (no-stmt t) = record { last = p; comes = stays; takes = t }
 closing (last-stmt {q = q} d t) = record { last = q; comes = ahead d; takes = t }
 closing (a-line d a b e) = let r = closing e in record { last = r .last; comes = ahead d ▹ over a ▹ ahead b ▹ r .comes; takes = r .takes }
 
-body-closing : {text : List ℕ} {end : ℕ} {p q : Place} → Derives text (Body end) p q → Closing end p q
-body-closing (body-of a d) = let r = closing d in record { last = r .last; comes = ahead a ▹ r .comes; takes = r .takes }
+body-closing : {text : List ℕ} {end : ℕ} {p q : Place} → Derives text (Exprs end) p q → Closing end p q
+body-closing (exprs-of a d) = let r = closing d in record { last = r .last; comes = ahead a ▹ r .comes; takes = r .takes }
 
 nothing-left : {p q : Place} → Endless (p .rest) → Tok kind.Eof p q → q .rest ≡ []
 unfolding kindOf after
@@ -70,7 +70,7 @@ nothing-left {p} h t = ap (λ z. z .rest) (sym (t .next)) ∙ go (p .prev) h (t 
     go n endless-none k = refl
     go n (endless-more h r) k = absurd (h k)
 
-pub whole-sheet : {text : List ℕ} {q : Place} (ws : List ℕ) → ((i : ℕ) → i < count ws → kindAt ws i ≡ kind.Eof → ⊥) → Derives text (Body kind.Eof) (before ws) q → q .rest ≡ []
+pub whole-sheet : {text : List ℕ} {q : Place} (ws : List ℕ) → ((i : ℕ) → i < count ws → kindAt ws i ≡ kind.Eof → ⊥) → Derives text (Exprs kind.Eof) (before ws) q → q .rest ≡ []
 unfolding before
 whole-sheet ws none-is d =
     let r = body-closing d in

@@ -3,6 +3,7 @@ pub mod ItemPaths
 pub mod LitPaths
 pub mod PatternKeeps
 pub mod PatternPaths
+pub mod Placed
 pub mod TypeKeeps
 pub mod TypePaths
 pub mod Unique

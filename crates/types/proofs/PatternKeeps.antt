@@ -1,5 +1,4 @@
 -- What the rules on patterns keep, and that the turns of their lists take tokens.
-use mathlib.Core.Path.{_≡_}
 use Prim.Native.Nat.{ℕ, zero, suc}
 use Rattle.kinds.specs.Number as kind
 use Rattle.cursor.specs.declared.Kids.{Kids}
@@ -8,13 +7,13 @@ use Rattle.cursor.specs.Sheet.{Sheet}
 use Rattle.cursor.specs.Rule.{Rule}
 use Rattle.cursor.specs.Records.{noKids}
 use Rattle.cursor.proofs.Loops.{Takes}
-use Rattle.cursor.proofs.Keeps.{Mark, Keeps, EndsFrom, gives, refuses, eases, binds, thens}
-use Rattle.cursor.proofs.Kept.{bump-keeps, expect-keeps, pick-keeps, nothing, Fresh, RowFor, ground-mine}
+use Rattle.cursor.proofs.Chosen.{all, _&_}
+use Rattle.cursor.proofs.Keeps.{Mark, Keeps, gives, refuses, eases, binds, thens}
+use Rattle.cursor.proofs.Kept.{bump-keeps, expect-keeps, chooses, nothing, Fresh, RowFor, ground-mine}
 use Rattle.types.specs.declared.items.Items.{Items}
 use Rattle.types.specs.Items.{itemTurn}
-use Rattle.types.specs.Patterns.{patternEnd, patternLast, tablePatternPair, patternItem, patternItems, patternRow, patternChain, patternBy, pattern, patterns}
+use Rattle.types.specs.Patterns.{patternEnd, patternLast, tablePatternPair, patternItem, patternItems, patternRow, patternCases, pattern, patterns}
 use Rattle.types.proofs.ItemKeeps.{ItemsFor, start-keeps, close-keeps, pair-keeps, lit-keeps, ident-keeps, items-keep, items-take}
-use Rattle.types.proofs.TypeKeeps.{picked}
 
 module _ {m : Mark} (e : Sheet) where
   last-keeps : (i : Items) → ItemsFor m i → Keeps m (ItemsFor m) (patternLast e i)
@@ -28,7 +27,8 @@ module _ {m : Mark} (e : Sheet) where
 
     item-keeps : (k : ℕ) → Keeps m (Fresh m) (patternItem e inner k)
     unfolding patternItem
-    item-keeps k = record { ends = λ s w h. picked (EndsFrom m (Fresh m) s w) k (table-pair-keeps .ends s w h) (keeps .ends s w h) (keeps .ends s w h) (keeps .ends s w h) }
+    item-keeps zero = record { ends = λ s w h. table-pair-keeps .ends s w h }
+    item-keeps (suc k) = record { ends = λ s w h. keeps .ends s w h }
 
     pattern-items-keep : (k : ℕ) (kids : Kids) → RowFor m kids → Keeps m (ItemsFor m) (patternItems e inner k kids)
     unfolding patternItems
@@ -38,13 +38,9 @@ module _ {m : Mark} (e : Sheet) where
     unfolding patternRow
     row-keeps from k n = thens (bump-keeps e) (binds (pattern-items-keep k noKids nothing) (λ i _. close-keeps e n from _ _ _ (i .kids .first)))
 
-    by-keeps : (from which : ℕ) → Keeps m (Fresh m) (patternBy e inner from which)
-    unfolding patternBy
-    by-keeps from which = record { ends = λ s w h. picked (EndsFrom m (Fresh m) s w) which (ident-keeps e .ends s w h) (row-keeps from 0 node.PatternTable .ends s w h) (row-keeps from 1 node.PatternList .ends s w h) (lit-keeps e .ends s w h) }
-
     pub pattern-keeps : Keeps m (Fresh m) (pattern e inner)
     unfolding pattern
-    pattern-keeps = binds (start-keeps e) (λ from _. binds (pick-keeps e (patternChain e) 0) (λ which _. by-keeps from which))
+    pattern-keeps = binds (start-keeps e) (λ from _. chooses e (patternCases e inner from) (ident-keeps e & row-keeps from 0 node.PatternTable & row-keeps from 1 node.PatternList & all) (lit-keeps e))
 
 pub patterns-keep : {m : Mark} (e : Sheet) (d : ℕ) → Keeps m (Fresh m) (patterns e d)
 unfolding patterns

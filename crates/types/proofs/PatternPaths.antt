@@ -1,5 +1,5 @@
 -- Each way through the rules on patterns.
-use mathlib.Core.Path.{_≡_, refl, sym, _∙_}
+use mathlib.Core.Path.{_≡_, refl, sym}
 use mathlib.Core.Bool.{Bool, false}
 use Prim.Native.Nat.{ℕ, zero, suc, _-_}
 use native.Mathlib.Numerals.{sub-one}
@@ -18,7 +18,8 @@ use Rattle.cursor.specs.Records.{noKids, flagged}
 use Rattle.types.specs.declared.items.Items.{Items}
 use Rattle.types.specs.Lits.{lit, ident}
 use Rattle.types.specs.Items.{start, close, pair, isEnded, so, afterLast, lastItem, itemTurn, itemsUntilWithLast}
-use Rattle.types.specs.Patterns.{spanOf, patternEnd, patternLast, tablePatternPair, patternItem, patternItems, patternEnded, patternRow, patternChain, patternBy, pattern, patterns}
+use Rattle.types.specs.Patterns.{spanOf, patternEnd, patternLast, tablePatternPair, patternItem, patternItems, patternEnded, patternRow, patterns}
+use Rattle.types.proofs.Placed.{patternChain, patternBy, pattern-placed}
 use Rattle.types.proofs.TypePaths.{starts}
 
 pub end-pairs : {k : ℕ} → k ≡ 0 → patternEnd k ≡ kind.CloseBrace
@@ -135,11 +136,11 @@ module _ (e : Sheet) (s : State) (w : World) where
 
   module _ {from : ℕ} (f : from ≡ startOf (rangeAt (e .tokens) (s .at))) where
     pub patterns-full : (d : ℕ) {x : Stop} → (d ≡ 0 → ⊥) → pick e (patternChain e) s w ≡ failed x → patterns e d s w ≡ failed x
-    unfolding patterns pattern
+    unfolding patterns
     patterns-full zero n p = absurd (n refl)
-    patterns-full (suc d) n p = rw (starts e s w f) (rw p)
+    patterns-full (suc d) n p = rw (pattern-placed e (patterns e d)) (rw (starts e s w f) (rw p))
 
     pub patterns-on : (d : ℕ) {which : ℕ} {s1 : State} {w1 : World} → (d ≡ 0 → ⊥) → pick e (patternChain e) s w ≡ done s1 w1 which → patterns e d s w ≡ patternBy e (patterns e (d - 1)) from which s1 w1
-    unfolding patterns pattern
+    unfolding patterns
     patterns-on zero n p = absurd (n refl)
-    patterns-on (suc d) n p = rw (starts e s w f) (rw p (rw sub-one))
+    patterns-on (suc d) n p = rw (pattern-placed e (patterns e d)) (rw (starts e s w f) (rw p (rw sub-one)))

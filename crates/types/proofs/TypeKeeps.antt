@@ -1,5 +1,5 @@
 -- What the rules on types keep, and that the turns of their loops take tokens.
-use mathlib.Core.Path.{_≡_, refl}
+use mathlib.Core.Path.{refl}
 use mathlib.Core.Bool.{Bool, true, false}
 use Prim.Native.Nat.{ℕ, zero, suc}
 use lib.Dec.{eqb}
@@ -7,20 +7,22 @@ use Rattle.kinds.specs.Number as kind
 use Rattle.cursor.specs.declared.Kids.{Kids}
 use Rattle.cursor.specs.Node as node
 use Rattle.cursor.specs.Sheet.{Sheet}
-use Rattle.cursor.specs.Rule.{Rule, _>>=_, _>>_}
+use Rattle.cursor.specs.Rule.{Rule}
 use Rattle.cursor.specs.Records.{noKids}
 use Rattle.cursor.proofs.Loops.{Takes}
+use Rattle.cursor.proofs.Chosen.{all, _&_}
 use Rattle.cursor.proofs.Keeps.{Mark, Keeps, Nexts, EndsFrom, gives, refuses, ifs, eases, binds, thens, loops}
-use Rattle.cursor.proofs.Kept.{bump-keeps, check-keeps, eat-keeps, expect-keeps, pick-keeps, add-keeps, Mine, nothing, Fresh, RowFor, fresh-mine, ground-mine}
+use Rattle.cursor.proofs.Kept.{bump-keeps, check-keeps, eat-keeps, expect-keeps, chooses, add-keeps, Mine, nothing, Fresh, RowFor, fresh-mine, ground-mine}
 use Rattle.cursor.proofs.Spends.{takes, spares, if-spends}
 use Rattle.cursor.proofs.Spent.{eat-spends}
 use Rattle.types.specs.declared.items.Items.{Items}
 use Rattle.types.specs.Items.{itemTurn}
-use Rattle.types.specs.Types.{pickOne, unionTurn, union, type, returns, named, typedIdent, tableTyPair, tableTyOther, typeItem, typeLastKind, typeEnd, typeLastItem, typeLast, typeItems, typeParen, typeTable, typeFunction, typeChain, typeBy, typeAtom, atoms, params, closureParams}
+use Rattle.types.specs.ItemRules.{byRule}
+use Rattle.types.specs.Types.{unionTurn, union, type, returns, named, typedIdent, tableTyPair, tableTyOther, typeItem, typeLastKind, typeEnd, typeLastItem, typeLast, typeItems, typeParen, typeTable, typeFunction, typeCases, typeAtom, atoms, params, closureParams}
 use Rattle.types.proofs.ItemKeeps.{ItemsFor, start-keeps, close-keeps, pair-keeps, add-some-keeps, lit-keeps, ident-keeps, items-keep, items-take}
 
 -- one of four
-pub picked : {A : Type 0} (P : A → Type 0) (k : ℕ) {a b c d : A} → P a → P b → P c → P d → P (pickOne k a b c d)
+pub picked : {A : Type 0} (P : A → Type 0) (k : ℕ) {a b c d : A} → P a → P b → P c → P d → P (byRule k a b c d)
 picked P zero p q r t = p
 picked P (suc zero) p q r t = q
 picked P (suc (suc zero)) p q r t = r
@@ -89,13 +91,9 @@ module _ {m : Mark} (e : Sheet) (atom : Rule ℕ) (keeps : Keeps m (Fresh m) ato
   function-keeps from =
       thens (bump-keeps e) (binds (type-items-keep 3 noKids nothing) (λ i h. binds returns-keeps (λ r g. binds (add-some-keeps e (i .kids) r h g) (λ kids _. close-keeps e node.TyFunction from 0 0 _ (kids .first)))))
 
-  by-keeps : (from which : ℕ) → Keeps m (Fresh m) (typeBy e atom from which)
-  unfolding typeBy
-  by-keeps from which = record { ends = λ s w h. picked (EndsFrom m (Fresh m) s w) which (paren-keeps from .ends s w h) (ident-keeps e .ends s w h) (table-keeps from .ends s w h) (ifs (eqb which 3) (function-keeps from) (lit-keeps e) .ends s w h) }
-
   pub atom-keeps : Keeps m (Fresh m) (typeAtom e atom)
   unfolding typeAtom
-  atom-keeps = binds (start-keeps e) (λ from _. binds (pick-keeps e (typeChain e) 0) (λ which _. by-keeps from which))
+  atom-keeps = binds (start-keeps e) (λ from _. chooses e (typeCases e atom from) (paren-keeps from & ident-keeps e & table-keeps from & function-keeps from & all) (lit-keeps e))
 
   pub params-keep : (kids : Kids) → RowFor m kids → Keeps m (ItemsFor m) (params e atom kids)
   unfolding params

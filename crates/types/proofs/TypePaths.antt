@@ -1,5 +1,5 @@
 -- Each way through the rules on types.
-use mathlib.Core.Path.{_≡_, refl, _∙_}
+use mathlib.Core.Path.{_≡_, refl}
 use mathlib.Core.Bool.{Bool, true, false}
 use Prim.Native.Nat.{ℕ, zero, suc, _-_}
 use native.Mathlib.Numerals.{sub-one}
@@ -17,7 +17,8 @@ use Rattle.cursor.specs.Records.{add, noKids, flagged}
 use Rattle.types.specs.declared.items.Items.{Items}
 use Rattle.types.specs.Lits.{lit, ident}
 use Rattle.types.specs.Items.{start, close, pair, addSome, isEnded, so, afterLast, lastItem, itemTurn, itemsUntilWithLast}
-use Rattle.types.specs.Types.{ended, typeLastKind, typeEnd, unionTurn, union, type, returns, named, typedIdent, tableTyPair, tableTyOther, typeItem, typeLastItem, typeLast, lastOf, typeItems, typeParen, typeTable, typeFunction, typeChain, typeBy, typeAtom, atoms, params, closureParams}
+use Rattle.types.specs.Types.{ended, typeLastKind, typeEnd, unionTurn, union, type, returns, named, typedIdent, tableTyPair, tableTyOther, typeItem, typeLastItem, typeLast, lastOf, typeItems, typeParen, typeTable, typeFunction, atoms, params, closureParams}
+use Rattle.types.proofs.Placed.{typeChain, typeBy, type-atom-placed}
 
 -- how lists of each item rule end, and how their last item starts
 pub last-kind-pairs : {k : ℕ} → k ≡ 2 → typeLastKind k ≡ kind.OpenBracket
@@ -293,14 +294,14 @@ module _ (e : Sheet) (d : ℕ) (s : State) (w : World) where
 
 module _ (e : Sheet) (s : State) (w : World) {from : ℕ} (f : from ≡ startOf (rangeAt (e .tokens) (s .at))) where
   pub atoms-full : (d : ℕ) {x : Stop} → (d ≡ 0 → ⊥) → pick e (typeChain e) s w ≡ failed x → atoms e d s w ≡ failed x
-  unfolding atoms typeAtom
+  unfolding atoms
   atoms-full zero n p = absurd (n refl)
-  atoms-full (suc d) n p = rw (starts e s w f) (rw p)
+  atoms-full (suc d) n p = rw (type-atom-placed e (atoms e d)) (rw (starts e s w f) (rw p))
 
   pub atoms-on : (d : ℕ) {which : ℕ} {s1 : State} {w1 : World} → (d ≡ 0 → ⊥) → pick e (typeChain e) s w ≡ done s1 w1 which → atoms e d s w ≡ typeBy e (atoms e (d - 1)) from which s1 w1
-  unfolding atoms typeAtom
+  unfolding atoms
   atoms-on zero n p = absurd (n refl)
-  atoms-on (suc d) n p = rw (starts e s w f) (rw p (rw sub-one))
+  atoms-on (suc d) n p = rw (type-atom-placed e (atoms e d)) (rw (starts e s w f) (rw p (rw sub-one)))
 
 module _ (e : Sheet) (inner : Rule ℕ) (from : ℕ) where
   pub by-paren : (k : ℕ) (s : State) (w : World) → k ≡ 0 → typeBy e inner from k s w ≡ typeParen e inner from s w
@@ -324,7 +325,8 @@ module _ (e : Sheet) (inner : Rule ℕ) (from : ℕ) where
   by-lit zero s w p q r t = absurd (p refl)
   by-lit (suc zero) s w p q r t = absurd (q refl)
   by-lit (suc (suc zero)) s w p q r t = absurd (r refl)
-  by-lit (suc (suc (suc k))) s w p q r t = rw (ne-eqb _ _ t)
+  by-lit (suc (suc (suc zero))) s w p q r t = absurd (t refl)
+  by-lit (suc (suc (suc (suc k)))) s w p q r t = refl
 
 -- parameters
 module _ (e : Sheet) (atom : Rule ℕ) (kids : Kids) (s : State) (w : World) where

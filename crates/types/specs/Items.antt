@@ -21,12 +21,16 @@ start e s w = done s w (startOf (rangeAt (e .tokens) (s .at)))
 unfoldable pub close : ℕ → ℕ → ℕ → ℕ → ℕ → ℕ → Rule ℕ
 close k from one two flags first s w = append (record { kind = k; start = from; end = s .prev; one = one; two = two; flags = flags }) first s w
 
+-- a record that has nothing of its own but its kind and range, over the children from a link on
+abbrev pub over : ℕ → ℕ → ℕ → Rule ℕ
+over k from first = close k from 0 0 0 first
+
 -- a record over two children
 unfoldable pub pair : ℕ → ℕ → ℕ → ℕ → Rule ℕ
 pair k from a b = do
   one ← add noKids a
   two ← add one b
-  close k from 0 0 0 (two .first)
+  over k from (two .first)
 
 -- one more child, where there is one
 unfoldable pub addSome : Kids → ℕ → Rule Kids

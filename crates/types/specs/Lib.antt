@@ -1,4 +1,5 @@
 pub mod Lits
+pub mod ItemRules
 pub mod Items
 pub mod Answers
 pub mod Types

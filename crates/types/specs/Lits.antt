@@ -1,5 +1,5 @@
 -- Literals and names: parse_lit and parse_ident.
-use Prim.Native.Nat.{ℕ, _+_, _-_, _*_, _/_, _%_, _^_}
+use Prim.Native.Nat.{ℕ, _-_, _/_, _%_, _^_}
 use mathlib.Core.List.{List}
 use mathlib.Core.Bool.{Bool, true, false}
 use lib.Dec.{eqb}
@@ -15,11 +15,12 @@ use Rattle.cursor.specs.declared.Span.{Span}
 use Rattle.cursor.specs.declared.Ranged.{Ranged}
 use Rattle.cursor.specs.declared.Ranged.the-variants as ranged
 use Rattle.cursor.specs.Node as node
+use Rattle.cursor.specs.Layout.{FAULTY-INT}
 use Rattle.cursor.specs.Sheet.{Sheet, kindAt, rangeAt}
 use Rattle.cursor.specs.Rule.{fault, failed, Rule, _>>=_, _>>_}
 use Rattle.cursor.specs.Tokens.{bump}
 use Rattle.cursor.specs.Checks.{unexpected, expect}
-use Rattle.cursor.specs.Records.{append}
+use Rattle.cursor.specs.Records.{append, noLink}
 use Rattle.types.specs.declared.lits.Literal.{Literal}
 use Rattle.types.specs.declared.lits.Literal.the-variants as literals
 
@@ -64,8 +65,8 @@ literal text k r =
 unfoldable pub litFrom : Sheet → Span → Literal → Rule ℕ
 litFrom e r (literals.Value l) = do
   bump e
-  append l 0
-litFrom e r (literals.Faulty n) = λ s w. failed (fault s w (record { class = 1; found = n; span = r; listed = 0 }))
+  append l noLink
+litFrom e r (literals.Faulty n) = λ s w. failed (fault s w (record { class = FAULTY-INT; found = n; span = r; listed = 0 }))
 litFrom e r literals.Nothing = unexpected e
 
 unfoldable pub litAt : Sheet → ℕ → Ranged → Rule ℕ
@@ -79,7 +80,7 @@ lit e s w = litAt e (kindAt (e .tokens) (s .at)) (rangeAt (e .tokens) (s .at)) s
 unfoldable pub identAt : Sheet → Ranged → Rule ℕ
 identAt e (ranged.At r) = do
   expect e kind.Ident
-  append (leafLabel node.Ident r 0) 0
+  append (leafLabel node.Ident r 0) noLink
 identAt e ranged.Nowhere = unexpected e
 
 unfoldable pub ident : Sheet → Rule ℕ

@@ -11,21 +11,26 @@ use Rattle.cursor.specs.Node as node
 use Rattle.cursor.specs.Sheet.{Sheet, rangeAt}
 use Rattle.cursor.specs.Rule.{Rule, _>>=_, _>>_, give, refuse}
 use Rattle.cursor.specs.Tokens.{bump}
-use Rattle.cursor.specs.Checks.{expect, pick}
+use Rattle.cursor.specs.Checks.{expect, Case, _⇒_, choose}
 use Rattle.cursor.specs.Records.{noKids, flagged}
 use Rattle.types.specs.declared.items.Items.{Items}
 use Rattle.types.specs.Lits.{lit, ident}
+use Rattle.types.specs.ItemRules as items
 use Rattle.types.specs.Items.{start, close, pair, isEnded, so, lastItem, itemsUntilWithLast}
-use Rattle.types.specs.Types.{pickOne}
 
 -- a range, or the empty one at 0 where there is none
 abbrev pub spanOf : Ranged → Span
 spanOf (ranged.At r) = r
 spanOf ranged.Nowhere = record { start = 0; end = 0 }
 
--- how a list of each item rule ends: 0 pairs, 1 patterns
+-- what goes with Pairs, and what with Patterns
+abbrev pub pairsOr : {A : Type 0} → ℕ → A → A → A
+pairsOr zero a b = a
+pairsOr (suc n) a b = b
+
+-- how a list of each item rule ends
 unfoldable pub patternEnd : ℕ → ℕ
-patternEnd k = pickOne k kind.CloseBrace kind.CloseBracket kind.CloseBracket kind.CloseBracket
+patternEnd rule = pairsOr rule kind.CloseBrace kind.CloseBracket
 
 module _ (e : Sheet) where
   -- the `...` of a pattern: its range is words of its owner
@@ -43,37 +48,36 @@ module _ (e : Sheet) where
     value ← inner
     pair node.TablePatternPair from key value
 
-  -- the item rules by number: 0 a pair, 1 a pattern
+  -- an item by the name of its rule
   unfoldable pub patternItem : Rule ℕ → ℕ → Rule ℕ
-  patternItem inner k s w = pickOne k (tablePatternPair inner s w) (inner s w) (inner s w) (inner s w)
+  patternItem inner rule s w = pairsOr rule (tablePatternPair inner s w) (inner s w)
 
   unfoldable pub patternItems : Rule ℕ → ℕ → Kids → Rule Items
-  patternItems inner k kids = itemsUntilWithLast e (patternItem inner k) kind.Ellipsis patternLast (patternEnd k) kids
+  patternItems inner rule kids = itemsUntilWithLast e (patternItem inner rule) kind.Ellipsis patternLast (patternEnd rule) kids
 
   -- the last item, and the end of the list
   unfoldable pub patternEnded : ℕ → Kids → Rule Items
-  patternEnded k kids = lastItem e patternLast (patternEnd k) (so kids)
+  patternEnded rule kids = lastItem e patternLast (patternEnd rule) (so kids)
 
   -- a table or a list pattern
   unfoldable pub patternRow : Rule ℕ → ℕ → ℕ → ℕ → Rule ℕ
-  patternRow inner from k record-kind = do
+  patternRow inner from rule record-kind = do
     bump e
-    i ← patternItems inner k noKids
+    i ← patternItems inner rule noKids
     close record-kind from (spanOf (i .ended) .start) (spanOf (i .ended) .end) (flagged (i .kids .count) 0 (isEnded (i .ended)) false) (i .kids .first)
 
-  -- the chain of parse_pattern
-  abbrev pub patternChain : List ℕ
-  patternChain = kind.Ident ∷ kind.OpenBrace ∷ kind.OpenBracket ∷ []
+  -- parse_pattern, over the patterns one level further in; its ways by the kind that each begins with
+  abbrev pub patternCases : Rule ℕ → ℕ → List (Case ℕ)
+  patternCases inner from =
+      kind.Ident ⇒ ident e
+      ∷ kind.OpenBrace ⇒ patternRow inner from items.Pairs node.PatternTable
+      ∷ kind.OpenBracket ⇒ patternRow inner from items.Patterns node.PatternList
+      ∷ []
 
-  unfoldable pub patternBy : Rule ℕ → ℕ → ℕ → Rule ℕ
-  patternBy inner from which s w = pickOne which (ident e s w) (patternRow inner from 0 node.PatternTable s w) (patternRow inner from 1 node.PatternList s w) (lit e s w)
-
-  -- parse_pattern, over the patterns one level further in
   unfoldable pub pattern : Rule ℕ → Rule ℕ
   pattern inner = do
     from ← start e
-    which ← pick e patternChain
-    patternBy inner from which
+    choose e (patternCases inner from) (lit e)
 
   -- patterns with so many levels left: 9 where none is
   unfoldable pub patterns : ℕ → Rule ℕ

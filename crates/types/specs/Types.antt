@@ -9,30 +9,25 @@ use Rattle.cursor.specs.declared.Ranged.the-variants as ranged
 use Rattle.cursor.specs.Node as node
 use Rattle.cursor.specs.Sheet.{Sheet}
 use Rattle.cursor.specs.Rule.{Out, Rule, _>>=_, _>>_, give, refuse, ifSo, more, stop, Turn, iterate}
-use Rattle.cursor.specs.Checks.{check, eat, expect, pick}
+use Rattle.cursor.specs.Checks.{check, eat, expect, Case, _⇒_, choose}
 use Rattle.cursor.specs.Tokens.{bump}
-use Rattle.cursor.specs.Records.{add, noKids, flagged}
+use Rattle.cursor.specs.Records.{noLink, add, noKids, flagged}
 use Rattle.types.specs.declared.items.Items.{Items}
 use Rattle.types.specs.Lits.{lit, ident}
-use Rattle.types.specs.Items.{start, close, pair, addSome, isEnded, so, lastItem, itemsUntilWithLast}
+use Rattle.types.specs.ItemRules as items
+use Rattle.types.specs.ItemRules.{byRule}
+use Rattle.types.specs.Items.{start, close, over, pair, addSome, isEnded, so, lastItem, itemsUntilWithLast}
 
 -- a last item that is one more child: it is not counted
 abbrev pub ended : Kids → Kids → Items
 ended before after = record { kids = record { first = after .first; last = after .last; count = before .count }; ended = ranged.At (record { start = 0; end = 0 }) }
 
--- the first, second or third, and otherwise the fourth
-abbrev pub pickOne : {A : Type 0} → ℕ → A → A → A → A → A
-pickOne zero a b c d = a
-pickOne (suc zero) a b c d = b
-pickOne (suc (suc zero)) a b c d = c
-pickOne (suc (suc (suc n))) a b c d = d
-
 -- how the last item of a list of each item rule starts, and how the list ends
 unfoldable pub typeLastKind : ℕ → ℕ
-typeLastKind k = pickOne k kind.Ellipsis kind.Ellipsis kind.OpenBracket kind.Ellipsis
+typeLastKind rule = byRule rule kind.Ellipsis kind.Ellipsis kind.OpenBracket kind.Ellipsis
 
 unfoldable pub typeEnd : ℕ → ℕ
-typeEnd k = pickOne k kind.CloseParen kind.VBar kind.CloseBrace kind.CloseParen
+typeEnd rule = byRule rule kind.CloseParen kind.VBar kind.CloseBrace kind.CloseParen
 
 module _ (e : Sheet) where
   -- types in a row between bars
@@ -60,11 +55,11 @@ module _ (e : Sheet) where
     bar ← check e kind.VBar
     ifSo (union atom from first) (give first) bar
 
-  -- parse_returns: the link to the type, 0 where there is none
+  -- parse_returns: the link to the type, or none
   unfoldable pub returns : Rule ℕ → Rule ℕ
   returns atom = do
     arrow ← eat e kind.Arrow
-    ifSo (type atom) (give 0) arrow
+    ifSo (type atom) (give noLink) arrow
 
   -- the type of a name: in a closure's parameters an atom
   unfoldable pub named : Rule ℕ → Bool → Rule ℕ
@@ -101,31 +96,31 @@ module _ (e : Sheet) where
     value ← type atom
     pair node.TableTyOther from key value
 
-  -- the item rules by number: 0 a typed name, 1 one whose type is an atom, 2 a pair of a table type, 3 a type
+  -- an item by the name of its rule: a parameter, a closure's, a pair of a table type, a type
   unfoldable pub typeItem : Rule ℕ → ℕ → Rule ℕ
-  typeItem atom k s w = pickOne k (typedIdent (named atom false) s w) (typedIdent (named atom true) s w) (tableTyPair atom s w) (type atom s w)
+  typeItem atom rule s w = byRule rule (typedIdent (named atom false) s w) (typedIdent (named atom true) s w) (tableTyPair atom s w) (type atom s w)
 
   -- the last item of each: `...` and one more item; of a table type the other pairs
   unfoldable pub typeLastItem : Rule ℕ → ℕ → Rule ℕ
-  typeLastItem atom k s w = elim (eqb k 2) as (λ _. Out ℕ) [
+  typeLastItem atom rule s w = elim (eqb rule items.TableTyPairs) as (λ _. Out ℕ) [
     | true ↦ tableTyOther atom s w
     | false ↦ (do
       expect e kind.Ellipsis
-      typeItem atom k) s w
+      typeItem atom rule) s w
   ]
 
   unfoldable pub typeLast : Rule ℕ → ℕ → Items → Rule Items
-  typeLast atom k i = do
-    r ← typeLastItem atom k
+  typeLast atom rule i = do
+    r ← typeLastItem atom rule
     after ← add (i .kids) r
     give (ended (i .kids) after)
 
   -- the last item, and the end of the list
   unfoldable pub lastOf : Rule ℕ → ℕ → Kids → Rule Items
-  lastOf atom k kids = lastItem e (typeLast atom k) (typeEnd k) (so kids)
+  lastOf atom rule kids = lastItem e (typeLast atom rule) (typeEnd rule) (so kids)
 
   unfoldable pub typeItems : Rule ℕ → ℕ → Kids → Rule Items
-  typeItems atom k kids = itemsUntilWithLast e (typeItem atom k) (typeLastKind k) (typeLast atom k) (typeEnd k) kids
+  typeItems atom rule kids = itemsUntilWithLast e (typeItem atom rule) (typeLastKind rule) (typeLast atom rule) (typeEnd rule) kids
 
   -- a type in parentheses
   unfoldable pub typeParen : Rule ℕ → ℕ → Rule ℕ
@@ -134,36 +129,36 @@ module _ (e : Sheet) where
     t ← type inner
     expect e kind.CloseParen
     kids ← add noKids t
-    close node.TyParen from 0 0 0 (kids .first)
+    over node.TyParen from (kids .first)
 
   unfoldable pub typeTable : Rule ℕ → ℕ → Rule ℕ
   typeTable inner from = do
     bump e
-    i ← typeItems inner 2 noKids
+    i ← typeItems inner items.TableTyPairs noKids
     close node.TyTable from 0 0 (flagged (i .kids .count) 0 (isEnded (i .ended)) false) (i .kids .first)
 
   -- a function type: it has no opening parenthesis
   unfoldable pub typeFunction : Rule ℕ → ℕ → Rule ℕ
   typeFunction inner from = do
     bump e
-    i ← typeItems inner 3 noKids
+    i ← typeItems inner items.Types noKids
     r ← returns inner
     kids ← addSome (i .kids) r
     close node.TyFunction from 0 0 (flagged (i .kids .count) 0 (isEnded (i .ended)) (ltb 0 r)) (kids .first)
 
-  -- the chain of parse_type_atom
-  abbrev pub typeChain : List ℕ
-  typeChain = kind.OpenParen ∷ kind.Ident ∷ kind.OpenBrace ∷ kind.Fn ∷ []
+  -- parse_type_atom, over the type atoms one level further in; its ways by the kind that each begins with
+  abbrev pub typeCases : Rule ℕ → ℕ → List (Case ℕ)
+  typeCases inner from =
+      kind.OpenParen ⇒ typeParen inner from
+      ∷ kind.Ident ⇒ ident e
+      ∷ kind.OpenBrace ⇒ typeTable inner from
+      ∷ kind.Fn ⇒ typeFunction inner from
+      ∷ []
 
-  unfoldable pub typeBy : Rule ℕ → ℕ → ℕ → Rule ℕ
-  typeBy inner from which s w = pickOne which (typeParen inner from s w) (ident e s w) (typeTable inner from s w) (elim (eqb which 3) as (λ _. Out ℕ) [ true ↦ typeFunction inner from s w | false ↦ lit e s w ])
-
-  -- parse_type_atom, over the type atoms one level further in
   unfoldable pub typeAtom : Rule ℕ → Rule ℕ
   typeAtom inner = do
     from ← start e
-    which ← pick e typeChain
-    typeBy inner from which
+    choose e (typeCases inner from) (lit e)
 
   -- type atoms with so many levels left: 9 where none is
   unfoldable pub atoms : ℕ → Rule ℕ
@@ -174,9 +169,9 @@ module _ (e : Sheet) where
   unfoldable pub params : Rule ℕ → Kids → Rule Items
   params atom kids = do
     expect e kind.OpenParen
-    typeItems atom 0 kids
+    typeItems atom items.TypedIdents kids
 
   unfoldable pub closureParams : Rule ℕ → Kids → Rule Items
   closureParams atom kids = do
     expect e kind.VBar
-    typeItems atom 1 kids
+    typeItems atom items.AtomTypedIdents kids

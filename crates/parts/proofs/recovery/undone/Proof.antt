@@ -5,10 +5,10 @@ use Rattle.parts.proofs.recovery.undone.Tie as tie
 use mathlib.Core.Path.{sym}
 
 returns : tie.Need-returns
-returns c = λ w. sym (paths.undo-refused _ _ (c .before .before .args .lost) (c .if1 .taken))
+returns c = λ w. sym (paths.undone-refused _ _ (c .before .before .args .lost) (c .if1 .taken))
 
 returns-2 : tie.Need-returns-2
-returns-2 c = λ w. sym (paths.undo-fault _ _ (c .before .before .before .args .lost) (c .before .if1 .left) (c .rewind .ensures))
+returns-2 c = λ w. sym (paths.undone-fault _ _ (c .before .before .before .args .lost) (c .before .if1 .left) (c .rewind .ensures))
 
 pub undone-spec : {M : Type 1} → statement M
 undone-spec =

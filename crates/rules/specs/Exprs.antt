@@ -1,6 +1,5 @@
 -- Statements in a row: parse_exprs.
 use Prim.Native.Nat.{ℕ}
-use mathlib.Core.List.{_∷_}
 use Rattle.cursor.specs.declared.Kids.{Kids}
 use Rattle.cursor.specs.Rule.{Rule, _>>=_, _>>_, give, ifSo, stop, Turn, iterate}
 use Rattle.cursor.specs.Tokens.{eatEol}
@@ -16,8 +15,8 @@ module _ (r : Inner) where
   unfoldable pub stmtOr : ℕ → Rule ℕ
   stmtOr end = recover (stmt r) give (skipped (r .sheet) end)
 
-  unfoldable pub bodyTurn : ℕ → Turn Kids
-  bodyTurn end kids = do
+  unfoldable pub exprsTurn : ℕ → Turn Kids
+  exprsTurn end kids = do
     closed ← eat (r .sheet) end
     ifSo (give (stop kids))
         (do
@@ -25,7 +24,7 @@ module _ (r : Inner) where
           afterStmt (r .sheet) end kids link) closed
 
   -- parse_exprs
-  unfoldable pub body : ℕ → Rule Kids
-  body end = do
+  unfoldable pub exprs : ℕ → Rule Kids
+  exprs end = do
     eatEol (r .sheet)
-    iterate (r .sheet) (bodyTurn end) noKids
+    iterate (r .sheet) (exprsTurn end) noKids

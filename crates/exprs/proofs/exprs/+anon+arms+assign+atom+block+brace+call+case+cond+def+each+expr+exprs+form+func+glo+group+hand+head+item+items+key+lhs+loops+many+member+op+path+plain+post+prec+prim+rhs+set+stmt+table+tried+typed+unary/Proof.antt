@@ -20,8 +20,8 @@ use Rattle.cursor.specs.Answers.{asMoved, asTest, asEaten, asPicked, asBuilt}
 use Rattle.types.specs.Answers.{asListed, asTurned}
 use Rattle.types.specs.Items.{so}
 use Rattle.parts.specs.Answers.{asParsed, asChained, asRowed, asKidsTurned, asAsked}
-use Rattle.rules.specs.Statements.{typed, leftTurn, rightTurn}
-use Rattle.rules.specs.Body.{bodyTurn}
+use Rattle.rules.specs.Statements.{leftTurn, rightTurn}
+use Rattle.rules.specs.Exprs.{exprsTurn}
 use Rattle.rules.specs.Precedence.{infixTurn, handlerTurn}
 use Rattle.rules.specs.Primary.{postfixTurn}
 use Rattle.exprs.specs.Suffix.{isSuffix}
@@ -41,121 +41,121 @@ use borrow.Fn.Kinds.{In}
 use borrow.Fn.PlainCycle.{Measures, is, falls, and}
 use Rattle.exprs.proofs.exprs.anon.Reads as anon
 use Rattle.exprs.proofs.exprs.anon.Kinds as anon-kinds
-use Rattle.exprs.proofs.exprs.+anon+arms+assign+atom+block+brace+call+case+catch+cond+def+each+expr+exprs+field+form+func+glo+group+head+item+items+key+lhs+loops+many+op+path+plain+post+prec+prim+rhs+set+stmt+table+tried+typed+unary.Lts-anon as anon-lts
+use Rattle.exprs.proofs.exprs.+anon+arms+assign+atom+block+brace+call+case+cond+def+each+expr+exprs+form+func+glo+group+hand+head+item+items+key+lhs+loops+many+member+op+path+plain+post+prec+prim+rhs+set+stmt+table+tried+typed+unary.Lts-anon as anon-lts
 use Rattle.exprs.proofs.exprs.arms.Reads as arms
 use Rattle.exprs.proofs.exprs.arms.Kinds as arms-kinds
-use Rattle.exprs.proofs.exprs.+anon+arms+assign+atom+block+brace+call+case+catch+cond+def+each+expr+exprs+field+form+func+glo+group+head+item+items+key+lhs+loops+many+op+path+plain+post+prec+prim+rhs+set+stmt+table+tried+typed+unary.Lts-arms as arms-lts
+use Rattle.exprs.proofs.exprs.+anon+arms+assign+atom+block+brace+call+case+cond+def+each+expr+exprs+form+func+glo+group+hand+head+item+items+key+lhs+loops+many+member+op+path+plain+post+prec+prim+rhs+set+stmt+table+tried+typed+unary.Lts-arms as arms-lts
 use Rattle.exprs.proofs.exprs.assign.Reads as assign
 use Rattle.exprs.proofs.exprs.assign.Kinds as assign-kinds
-use Rattle.exprs.proofs.exprs.+anon+arms+assign+atom+block+brace+call+case+catch+cond+def+each+expr+exprs+field+form+func+glo+group+head+item+items+key+lhs+loops+many+op+path+plain+post+prec+prim+rhs+set+stmt+table+tried+typed+unary.Lts-assign as assign-lts
+use Rattle.exprs.proofs.exprs.+anon+arms+assign+atom+block+brace+call+case+cond+def+each+expr+exprs+form+func+glo+group+hand+head+item+items+key+lhs+loops+many+member+op+path+plain+post+prec+prim+rhs+set+stmt+table+tried+typed+unary.Lts-assign as assign-lts
 use Rattle.exprs.proofs.exprs.atom.Reads as atom
 use Rattle.exprs.proofs.exprs.atom.Kinds as atom-kinds
-use Rattle.exprs.proofs.exprs.+anon+arms+assign+atom+block+brace+call+case+catch+cond+def+each+expr+exprs+field+form+func+glo+group+head+item+items+key+lhs+loops+many+op+path+plain+post+prec+prim+rhs+set+stmt+table+tried+typed+unary.Lts-atom as atom-lts
+use Rattle.exprs.proofs.exprs.+anon+arms+assign+atom+block+brace+call+case+cond+def+each+expr+exprs+form+func+glo+group+hand+head+item+items+key+lhs+loops+many+member+op+path+plain+post+prec+prim+rhs+set+stmt+table+tried+typed+unary.Lts-atom as atom-lts
 use Rattle.exprs.proofs.exprs.block.Reads as block
 use Rattle.exprs.proofs.exprs.block.Kinds as block-kinds
-use Rattle.exprs.proofs.exprs.+anon+arms+assign+atom+block+brace+call+case+catch+cond+def+each+expr+exprs+field+form+func+glo+group+head+item+items+key+lhs+loops+many+op+path+plain+post+prec+prim+rhs+set+stmt+table+tried+typed+unary.Lts-block as block-lts
+use Rattle.exprs.proofs.exprs.+anon+arms+assign+atom+block+brace+call+case+cond+def+each+expr+exprs+form+func+glo+group+hand+head+item+items+key+lhs+loops+many+member+op+path+plain+post+prec+prim+rhs+set+stmt+table+tried+typed+unary.Lts-block as block-lts
 use Rattle.exprs.proofs.exprs.brace.Reads as brace
 use Rattle.exprs.proofs.exprs.brace.Kinds as brace-kinds
-use Rattle.exprs.proofs.exprs.+anon+arms+assign+atom+block+brace+call+case+catch+cond+def+each+expr+exprs+field+form+func+glo+group+head+item+items+key+lhs+loops+many+op+path+plain+post+prec+prim+rhs+set+stmt+table+tried+typed+unary.Lts-brace as brace-lts
+use Rattle.exprs.proofs.exprs.+anon+arms+assign+atom+block+brace+call+case+cond+def+each+expr+exprs+form+func+glo+group+hand+head+item+items+key+lhs+loops+many+member+op+path+plain+post+prec+prim+rhs+set+stmt+table+tried+typed+unary.Lts-brace as brace-lts
 use Rattle.exprs.proofs.exprs.call.Reads as call
 use Rattle.exprs.proofs.exprs.call.Kinds as call-kinds
-use Rattle.exprs.proofs.exprs.+anon+arms+assign+atom+block+brace+call+case+catch+cond+def+each+expr+exprs+field+form+func+glo+group+head+item+items+key+lhs+loops+many+op+path+plain+post+prec+prim+rhs+set+stmt+table+tried+typed+unary.Lts-call as call-lts
+use Rattle.exprs.proofs.exprs.+anon+arms+assign+atom+block+brace+call+case+cond+def+each+expr+exprs+form+func+glo+group+hand+head+item+items+key+lhs+loops+many+member+op+path+plain+post+prec+prim+rhs+set+stmt+table+tried+typed+unary.Lts-call as call-lts
 use Rattle.exprs.proofs.exprs.case.Reads as case
 use Rattle.exprs.proofs.exprs.case.Kinds as case-kinds
-use Rattle.exprs.proofs.exprs.+anon+arms+assign+atom+block+brace+call+case+catch+cond+def+each+expr+exprs+field+form+func+glo+group+head+item+items+key+lhs+loops+many+op+path+plain+post+prec+prim+rhs+set+stmt+table+tried+typed+unary.Lts-case as case-lts
-use Rattle.exprs.proofs.exprs.catch.Reads as catch
-use Rattle.exprs.proofs.exprs.catch.Kinds as catch-kinds
-use Rattle.exprs.proofs.exprs.+anon+arms+assign+atom+block+brace+call+case+catch+cond+def+each+expr+exprs+field+form+func+glo+group+head+item+items+key+lhs+loops+many+op+path+plain+post+prec+prim+rhs+set+stmt+table+tried+typed+unary.Lts-catch as catch-lts
+use Rattle.exprs.proofs.exprs.+anon+arms+assign+atom+block+brace+call+case+cond+def+each+expr+exprs+form+func+glo+group+hand+head+item+items+key+lhs+loops+many+member+op+path+plain+post+prec+prim+rhs+set+stmt+table+tried+typed+unary.Lts-case as case-lts
 use Rattle.exprs.proofs.exprs.cond.Reads as cond
 use Rattle.exprs.proofs.exprs.cond.Kinds as cond-kinds
-use Rattle.exprs.proofs.exprs.+anon+arms+assign+atom+block+brace+call+case+catch+cond+def+each+expr+exprs+field+form+func+glo+group+head+item+items+key+lhs+loops+many+op+path+plain+post+prec+prim+rhs+set+stmt+table+tried+typed+unary.Lts-cond as cond-lts
+use Rattle.exprs.proofs.exprs.+anon+arms+assign+atom+block+brace+call+case+cond+def+each+expr+exprs+form+func+glo+group+hand+head+item+items+key+lhs+loops+many+member+op+path+plain+post+prec+prim+rhs+set+stmt+table+tried+typed+unary.Lts-cond as cond-lts
 use Rattle.exprs.proofs.exprs.def.Reads as def
 use Rattle.exprs.proofs.exprs.def.Kinds as def-kinds
-use Rattle.exprs.proofs.exprs.+anon+arms+assign+atom+block+brace+call+case+catch+cond+def+each+expr+exprs+field+form+func+glo+group+head+item+items+key+lhs+loops+many+op+path+plain+post+prec+prim+rhs+set+stmt+table+tried+typed+unary.Lts-def as def-lts
+use Rattle.exprs.proofs.exprs.+anon+arms+assign+atom+block+brace+call+case+cond+def+each+expr+exprs+form+func+glo+group+hand+head+item+items+key+lhs+loops+many+member+op+path+plain+post+prec+prim+rhs+set+stmt+table+tried+typed+unary.Lts-def as def-lts
 use Rattle.exprs.proofs.exprs.each.Reads as each
 use Rattle.exprs.proofs.exprs.each.Kinds as each-kinds
-use Rattle.exprs.proofs.exprs.+anon+arms+assign+atom+block+brace+call+case+catch+cond+def+each+expr+exprs+field+form+func+glo+group+head+item+items+key+lhs+loops+many+op+path+plain+post+prec+prim+rhs+set+stmt+table+tried+typed+unary.Lts-each as each-lts
+use Rattle.exprs.proofs.exprs.+anon+arms+assign+atom+block+brace+call+case+cond+def+each+expr+exprs+form+func+glo+group+hand+head+item+items+key+lhs+loops+many+member+op+path+plain+post+prec+prim+rhs+set+stmt+table+tried+typed+unary.Lts-each as each-lts
 use Rattle.exprs.proofs.exprs.expr.Reads as expr
 use Rattle.exprs.proofs.exprs.expr.Kinds as expr-kinds
-use Rattle.exprs.proofs.exprs.+anon+arms+assign+atom+block+brace+call+case+catch+cond+def+each+expr+exprs+field+form+func+glo+group+head+item+items+key+lhs+loops+many+op+path+plain+post+prec+prim+rhs+set+stmt+table+tried+typed+unary.Lts-expr as expr-lts
+use Rattle.exprs.proofs.exprs.+anon+arms+assign+atom+block+brace+call+case+cond+def+each+expr+exprs+form+func+glo+group+hand+head+item+items+key+lhs+loops+many+member+op+path+plain+post+prec+prim+rhs+set+stmt+table+tried+typed+unary.Lts-expr as expr-lts
 use Rattle.exprs.proofs.exprs.exprs.Reads as exprs
 use Rattle.exprs.proofs.exprs.exprs.Kinds as exprs-kinds
-use Rattle.exprs.proofs.exprs.+anon+arms+assign+atom+block+brace+call+case+catch+cond+def+each+expr+exprs+field+form+func+glo+group+head+item+items+key+lhs+loops+many+op+path+plain+post+prec+prim+rhs+set+stmt+table+tried+typed+unary.Lts-exprs as exprs-lts
-use Rattle.exprs.proofs.exprs.field.Reads as field
-use Rattle.exprs.proofs.exprs.field.Kinds as field-kinds
-use Rattle.exprs.proofs.exprs.+anon+arms+assign+atom+block+brace+call+case+catch+cond+def+each+expr+exprs+field+form+func+glo+group+head+item+items+key+lhs+loops+many+op+path+plain+post+prec+prim+rhs+set+stmt+table+tried+typed+unary.Lts-field as field-lts
+use Rattle.exprs.proofs.exprs.+anon+arms+assign+atom+block+brace+call+case+cond+def+each+expr+exprs+form+func+glo+group+hand+head+item+items+key+lhs+loops+many+member+op+path+plain+post+prec+prim+rhs+set+stmt+table+tried+typed+unary.Lts-exprs as exprs-lts
 use Rattle.exprs.proofs.exprs.form.Reads as form
 use Rattle.exprs.proofs.exprs.form.Kinds as form-kinds
-use Rattle.exprs.proofs.exprs.+anon+arms+assign+atom+block+brace+call+case+catch+cond+def+each+expr+exprs+field+form+func+glo+group+head+item+items+key+lhs+loops+many+op+path+plain+post+prec+prim+rhs+set+stmt+table+tried+typed+unary.Lts-form as form-lts
+use Rattle.exprs.proofs.exprs.+anon+arms+assign+atom+block+brace+call+case+cond+def+each+expr+exprs+form+func+glo+group+hand+head+item+items+key+lhs+loops+many+member+op+path+plain+post+prec+prim+rhs+set+stmt+table+tried+typed+unary.Lts-form as form-lts
 use Rattle.exprs.proofs.exprs.func.Reads as func
 use Rattle.exprs.proofs.exprs.func.Kinds as func-kinds
-use Rattle.exprs.proofs.exprs.+anon+arms+assign+atom+block+brace+call+case+catch+cond+def+each+expr+exprs+field+form+func+glo+group+head+item+items+key+lhs+loops+many+op+path+plain+post+prec+prim+rhs+set+stmt+table+tried+typed+unary.Lts-func as func-lts
+use Rattle.exprs.proofs.exprs.+anon+arms+assign+atom+block+brace+call+case+cond+def+each+expr+exprs+form+func+glo+group+hand+head+item+items+key+lhs+loops+many+member+op+path+plain+post+prec+prim+rhs+set+stmt+table+tried+typed+unary.Lts-func as func-lts
 use Rattle.exprs.proofs.exprs.glo.Reads as glo
 use Rattle.exprs.proofs.exprs.glo.Kinds as glo-kinds
-use Rattle.exprs.proofs.exprs.+anon+arms+assign+atom+block+brace+call+case+catch+cond+def+each+expr+exprs+field+form+func+glo+group+head+item+items+key+lhs+loops+many+op+path+plain+post+prec+prim+rhs+set+stmt+table+tried+typed+unary.Lts-glo as glo-lts
+use Rattle.exprs.proofs.exprs.+anon+arms+assign+atom+block+brace+call+case+cond+def+each+expr+exprs+form+func+glo+group+hand+head+item+items+key+lhs+loops+many+member+op+path+plain+post+prec+prim+rhs+set+stmt+table+tried+typed+unary.Lts-glo as glo-lts
 use Rattle.exprs.proofs.exprs.group.Reads as group
 use Rattle.exprs.proofs.exprs.group.Kinds as group-kinds
-use Rattle.exprs.proofs.exprs.+anon+arms+assign+atom+block+brace+call+case+catch+cond+def+each+expr+exprs+field+form+func+glo+group+head+item+items+key+lhs+loops+many+op+path+plain+post+prec+prim+rhs+set+stmt+table+tried+typed+unary.Lts-group as group-lts
+use Rattle.exprs.proofs.exprs.+anon+arms+assign+atom+block+brace+call+case+cond+def+each+expr+exprs+form+func+glo+group+hand+head+item+items+key+lhs+loops+many+member+op+path+plain+post+prec+prim+rhs+set+stmt+table+tried+typed+unary.Lts-group as group-lts
+use Rattle.exprs.proofs.exprs.hand.Reads as hand
+use Rattle.exprs.proofs.exprs.hand.Kinds as hand-kinds
+use Rattle.exprs.proofs.exprs.+anon+arms+assign+atom+block+brace+call+case+cond+def+each+expr+exprs+form+func+glo+group+hand+head+item+items+key+lhs+loops+many+member+op+path+plain+post+prec+prim+rhs+set+stmt+table+tried+typed+unary.Lts-hand as hand-lts
 use Rattle.exprs.proofs.exprs.head.Reads as head
 use Rattle.exprs.proofs.exprs.head.Kinds as head-kinds
-use Rattle.exprs.proofs.exprs.+anon+arms+assign+atom+block+brace+call+case+catch+cond+def+each+expr+exprs+field+form+func+glo+group+head+item+items+key+lhs+loops+many+op+path+plain+post+prec+prim+rhs+set+stmt+table+tried+typed+unary.Lts-head as head-lts
+use Rattle.exprs.proofs.exprs.+anon+arms+assign+atom+block+brace+call+case+cond+def+each+expr+exprs+form+func+glo+group+hand+head+item+items+key+lhs+loops+many+member+op+path+plain+post+prec+prim+rhs+set+stmt+table+tried+typed+unary.Lts-head as head-lts
 use Rattle.exprs.proofs.exprs.item.Reads as item
 use Rattle.exprs.proofs.exprs.item.Kinds as item-kinds
-use Rattle.exprs.proofs.exprs.+anon+arms+assign+atom+block+brace+call+case+catch+cond+def+each+expr+exprs+field+form+func+glo+group+head+item+items+key+lhs+loops+many+op+path+plain+post+prec+prim+rhs+set+stmt+table+tried+typed+unary.Lts-item as item-lts
+use Rattle.exprs.proofs.exprs.+anon+arms+assign+atom+block+brace+call+case+cond+def+each+expr+exprs+form+func+glo+group+hand+head+item+items+key+lhs+loops+many+member+op+path+plain+post+prec+prim+rhs+set+stmt+table+tried+typed+unary.Lts-item as item-lts
 use Rattle.exprs.proofs.exprs.items.Reads as items
 use Rattle.exprs.proofs.exprs.items.Kinds as items-kinds
-use Rattle.exprs.proofs.exprs.+anon+arms+assign+atom+block+brace+call+case+catch+cond+def+each+expr+exprs+field+form+func+glo+group+head+item+items+key+lhs+loops+many+op+path+plain+post+prec+prim+rhs+set+stmt+table+tried+typed+unary.Lts-items as items-lts
+use Rattle.exprs.proofs.exprs.+anon+arms+assign+atom+block+brace+call+case+cond+def+each+expr+exprs+form+func+glo+group+hand+head+item+items+key+lhs+loops+many+member+op+path+plain+post+prec+prim+rhs+set+stmt+table+tried+typed+unary.Lts-items as items-lts
 use Rattle.exprs.proofs.exprs.key.Reads as key
 use Rattle.exprs.proofs.exprs.key.Kinds as key-kinds
-use Rattle.exprs.proofs.exprs.+anon+arms+assign+atom+block+brace+call+case+catch+cond+def+each+expr+exprs+field+form+func+glo+group+head+item+items+key+lhs+loops+many+op+path+plain+post+prec+prim+rhs+set+stmt+table+tried+typed+unary.Lts-key as key-lts
+use Rattle.exprs.proofs.exprs.+anon+arms+assign+atom+block+brace+call+case+cond+def+each+expr+exprs+form+func+glo+group+hand+head+item+items+key+lhs+loops+many+member+op+path+plain+post+prec+prim+rhs+set+stmt+table+tried+typed+unary.Lts-key as key-lts
 use Rattle.exprs.proofs.exprs.lhs.Reads as lhs
 use Rattle.exprs.proofs.exprs.lhs.Kinds as lhs-kinds
-use Rattle.exprs.proofs.exprs.+anon+arms+assign+atom+block+brace+call+case+catch+cond+def+each+expr+exprs+field+form+func+glo+group+head+item+items+key+lhs+loops+many+op+path+plain+post+prec+prim+rhs+set+stmt+table+tried+typed+unary.Lts-lhs as lhs-lts
+use Rattle.exprs.proofs.exprs.+anon+arms+assign+atom+block+brace+call+case+cond+def+each+expr+exprs+form+func+glo+group+hand+head+item+items+key+lhs+loops+many+member+op+path+plain+post+prec+prim+rhs+set+stmt+table+tried+typed+unary.Lts-lhs as lhs-lts
 use Rattle.exprs.proofs.exprs.loops.Reads as loops
 use Rattle.exprs.proofs.exprs.loops.Kinds as loops-kinds
-use Rattle.exprs.proofs.exprs.+anon+arms+assign+atom+block+brace+call+case+catch+cond+def+each+expr+exprs+field+form+func+glo+group+head+item+items+key+lhs+loops+many+op+path+plain+post+prec+prim+rhs+set+stmt+table+tried+typed+unary.Lts-loops as loops-lts
+use Rattle.exprs.proofs.exprs.+anon+arms+assign+atom+block+brace+call+case+cond+def+each+expr+exprs+form+func+glo+group+hand+head+item+items+key+lhs+loops+many+member+op+path+plain+post+prec+prim+rhs+set+stmt+table+tried+typed+unary.Lts-loops as loops-lts
 use Rattle.exprs.proofs.exprs.many.Reads as many
 use Rattle.exprs.proofs.exprs.many.Kinds as many-kinds
-use Rattle.exprs.proofs.exprs.+anon+arms+assign+atom+block+brace+call+case+catch+cond+def+each+expr+exprs+field+form+func+glo+group+head+item+items+key+lhs+loops+many+op+path+plain+post+prec+prim+rhs+set+stmt+table+tried+typed+unary.Lts-many as many-lts
+use Rattle.exprs.proofs.exprs.+anon+arms+assign+atom+block+brace+call+case+cond+def+each+expr+exprs+form+func+glo+group+hand+head+item+items+key+lhs+loops+many+member+op+path+plain+post+prec+prim+rhs+set+stmt+table+tried+typed+unary.Lts-many as many-lts
+use Rattle.exprs.proofs.exprs.member.Reads as member
+use Rattle.exprs.proofs.exprs.member.Kinds as member-kinds
+use Rattle.exprs.proofs.exprs.+anon+arms+assign+atom+block+brace+call+case+cond+def+each+expr+exprs+form+func+glo+group+hand+head+item+items+key+lhs+loops+many+member+op+path+plain+post+prec+prim+rhs+set+stmt+table+tried+typed+unary.Lts-member as member-lts
 use Rattle.exprs.proofs.exprs.op.Reads as op
 use Rattle.exprs.proofs.exprs.op.Kinds as op-kinds
-use Rattle.exprs.proofs.exprs.+anon+arms+assign+atom+block+brace+call+case+catch+cond+def+each+expr+exprs+field+form+func+glo+group+head+item+items+key+lhs+loops+many+op+path+plain+post+prec+prim+rhs+set+stmt+table+tried+typed+unary.Lts-op as op-lts
+use Rattle.exprs.proofs.exprs.+anon+arms+assign+atom+block+brace+call+case+cond+def+each+expr+exprs+form+func+glo+group+hand+head+item+items+key+lhs+loops+many+member+op+path+plain+post+prec+prim+rhs+set+stmt+table+tried+typed+unary.Lts-op as op-lts
 use Rattle.exprs.proofs.exprs.path.Reads as path
 use Rattle.exprs.proofs.exprs.path.Kinds as path-kinds
-use Rattle.exprs.proofs.exprs.+anon+arms+assign+atom+block+brace+call+case+catch+cond+def+each+expr+exprs+field+form+func+glo+group+head+item+items+key+lhs+loops+many+op+path+plain+post+prec+prim+rhs+set+stmt+table+tried+typed+unary.Lts-path as path-lts
+use Rattle.exprs.proofs.exprs.+anon+arms+assign+atom+block+brace+call+case+cond+def+each+expr+exprs+form+func+glo+group+hand+head+item+items+key+lhs+loops+many+member+op+path+plain+post+prec+prim+rhs+set+stmt+table+tried+typed+unary.Lts-path as path-lts
 use Rattle.exprs.proofs.exprs.plain.Reads as plain
 use Rattle.exprs.proofs.exprs.plain.Kinds as plain-kinds
-use Rattle.exprs.proofs.exprs.+anon+arms+assign+atom+block+brace+call+case+catch+cond+def+each+expr+exprs+field+form+func+glo+group+head+item+items+key+lhs+loops+many+op+path+plain+post+prec+prim+rhs+set+stmt+table+tried+typed+unary.Lts-plain as plain-lts
+use Rattle.exprs.proofs.exprs.+anon+arms+assign+atom+block+brace+call+case+cond+def+each+expr+exprs+form+func+glo+group+hand+head+item+items+key+lhs+loops+many+member+op+path+plain+post+prec+prim+rhs+set+stmt+table+tried+typed+unary.Lts-plain as plain-lts
 use Rattle.exprs.proofs.exprs.post.Reads as post
 use Rattle.exprs.proofs.exprs.post.Kinds as post-kinds
-use Rattle.exprs.proofs.exprs.+anon+arms+assign+atom+block+brace+call+case+catch+cond+def+each+expr+exprs+field+form+func+glo+group+head+item+items+key+lhs+loops+many+op+path+plain+post+prec+prim+rhs+set+stmt+table+tried+typed+unary.Lts-post as post-lts
+use Rattle.exprs.proofs.exprs.+anon+arms+assign+atom+block+brace+call+case+cond+def+each+expr+exprs+form+func+glo+group+hand+head+item+items+key+lhs+loops+many+member+op+path+plain+post+prec+prim+rhs+set+stmt+table+tried+typed+unary.Lts-post as post-lts
 use Rattle.exprs.proofs.exprs.prec.Reads as prec
 use Rattle.exprs.proofs.exprs.prec.Kinds as prec-kinds
-use Rattle.exprs.proofs.exprs.+anon+arms+assign+atom+block+brace+call+case+catch+cond+def+each+expr+exprs+field+form+func+glo+group+head+item+items+key+lhs+loops+many+op+path+plain+post+prec+prim+rhs+set+stmt+table+tried+typed+unary.Lts-prec as prec-lts
+use Rattle.exprs.proofs.exprs.+anon+arms+assign+atom+block+brace+call+case+cond+def+each+expr+exprs+form+func+glo+group+hand+head+item+items+key+lhs+loops+many+member+op+path+plain+post+prec+prim+rhs+set+stmt+table+tried+typed+unary.Lts-prec as prec-lts
 use Rattle.exprs.proofs.exprs.prim.Reads as prim
 use Rattle.exprs.proofs.exprs.prim.Kinds as prim-kinds
-use Rattle.exprs.proofs.exprs.+anon+arms+assign+atom+block+brace+call+case+catch+cond+def+each+expr+exprs+field+form+func+glo+group+head+item+items+key+lhs+loops+many+op+path+plain+post+prec+prim+rhs+set+stmt+table+tried+typed+unary.Lts-prim as prim-lts
+use Rattle.exprs.proofs.exprs.+anon+arms+assign+atom+block+brace+call+case+cond+def+each+expr+exprs+form+func+glo+group+hand+head+item+items+key+lhs+loops+many+member+op+path+plain+post+prec+prim+rhs+set+stmt+table+tried+typed+unary.Lts-prim as prim-lts
 use Rattle.exprs.proofs.exprs.rhs.Reads as rhs
 use Rattle.exprs.proofs.exprs.rhs.Kinds as rhs-kinds
-use Rattle.exprs.proofs.exprs.+anon+arms+assign+atom+block+brace+call+case+catch+cond+def+each+expr+exprs+field+form+func+glo+group+head+item+items+key+lhs+loops+many+op+path+plain+post+prec+prim+rhs+set+stmt+table+tried+typed+unary.Lts-rhs as rhs-lts
+use Rattle.exprs.proofs.exprs.+anon+arms+assign+atom+block+brace+call+case+cond+def+each+expr+exprs+form+func+glo+group+hand+head+item+items+key+lhs+loops+many+member+op+path+plain+post+prec+prim+rhs+set+stmt+table+tried+typed+unary.Lts-rhs as rhs-lts
 use Rattle.exprs.proofs.exprs.set.Reads as set
 use Rattle.exprs.proofs.exprs.set.Kinds as set-kinds
-use Rattle.exprs.proofs.exprs.+anon+arms+assign+atom+block+brace+call+case+catch+cond+def+each+expr+exprs+field+form+func+glo+group+head+item+items+key+lhs+loops+many+op+path+plain+post+prec+prim+rhs+set+stmt+table+tried+typed+unary.Lts-set as set-lts
+use Rattle.exprs.proofs.exprs.+anon+arms+assign+atom+block+brace+call+case+cond+def+each+expr+exprs+form+func+glo+group+hand+head+item+items+key+lhs+loops+many+member+op+path+plain+post+prec+prim+rhs+set+stmt+table+tried+typed+unary.Lts-set as set-lts
 use Rattle.exprs.proofs.exprs.stmt.Reads as stmt
 use Rattle.exprs.proofs.exprs.stmt.Kinds as stmt-kinds
-use Rattle.exprs.proofs.exprs.+anon+arms+assign+atom+block+brace+call+case+catch+cond+def+each+expr+exprs+field+form+func+glo+group+head+item+items+key+lhs+loops+many+op+path+plain+post+prec+prim+rhs+set+stmt+table+tried+typed+unary.Lts-stmt as stmt-lts
+use Rattle.exprs.proofs.exprs.+anon+arms+assign+atom+block+brace+call+case+cond+def+each+expr+exprs+form+func+glo+group+hand+head+item+items+key+lhs+loops+many+member+op+path+plain+post+prec+prim+rhs+set+stmt+table+tried+typed+unary.Lts-stmt as stmt-lts
 use Rattle.exprs.proofs.exprs.table.Reads as table
 use Rattle.exprs.proofs.exprs.table.Kinds as table-kinds
-use Rattle.exprs.proofs.exprs.+anon+arms+assign+atom+block+brace+call+case+catch+cond+def+each+expr+exprs+field+form+func+glo+group+head+item+items+key+lhs+loops+many+op+path+plain+post+prec+prim+rhs+set+stmt+table+tried+typed+unary.Lts-table as table-lts
+use Rattle.exprs.proofs.exprs.+anon+arms+assign+atom+block+brace+call+case+cond+def+each+expr+exprs+form+func+glo+group+hand+head+item+items+key+lhs+loops+many+member+op+path+plain+post+prec+prim+rhs+set+stmt+table+tried+typed+unary.Lts-table as table-lts
 use Rattle.exprs.proofs.exprs.tried.Reads as tried
 use Rattle.exprs.proofs.exprs.tried.Kinds as tried-kinds
-use Rattle.exprs.proofs.exprs.+anon+arms+assign+atom+block+brace+call+case+catch+cond+def+each+expr+exprs+field+form+func+glo+group+head+item+items+key+lhs+loops+many+op+path+plain+post+prec+prim+rhs+set+stmt+table+tried+typed+unary.Lts-tried as tried-lts
+use Rattle.exprs.proofs.exprs.+anon+arms+assign+atom+block+brace+call+case+cond+def+each+expr+exprs+form+func+glo+group+hand+head+item+items+key+lhs+loops+many+member+op+path+plain+post+prec+prim+rhs+set+stmt+table+tried+typed+unary.Lts-tried as tried-lts
 use Rattle.exprs.proofs.exprs.typed.Reads as typed
 use Rattle.exprs.proofs.exprs.typed.Kinds as typed-kinds
-use Rattle.exprs.proofs.exprs.+anon+arms+assign+atom+block+brace+call+case+catch+cond+def+each+expr+exprs+field+form+func+glo+group+head+item+items+key+lhs+loops+many+op+path+plain+post+prec+prim+rhs+set+stmt+table+tried+typed+unary.Lts-typed as typed-lts
+use Rattle.exprs.proofs.exprs.+anon+arms+assign+atom+block+brace+call+case+cond+def+each+expr+exprs+form+func+glo+group+hand+head+item+items+key+lhs+loops+many+member+op+path+plain+post+prec+prim+rhs+set+stmt+table+tried+typed+unary.Lts-typed as typed-lts
 use Rattle.exprs.proofs.exprs.unary.Reads as unary
 use Rattle.exprs.proofs.exprs.unary.Kinds as unary-kinds
-use Rattle.exprs.proofs.exprs.+anon+arms+assign+atom+block+brace+call+case+catch+cond+def+each+expr+exprs+field+form+func+glo+group+head+item+items+key+lhs+loops+many+op+path+plain+post+prec+prim+rhs+set+stmt+table+tried+typed+unary.Lts-unary as unary-lts
+use Rattle.exprs.proofs.exprs.+anon+arms+assign+atom+block+brace+call+case+cond+def+each+expr+exprs+form+func+glo+group+hand+head+item+items+key+lhs+loops+many+member+op+path+plain+post+prec+prim+rhs+set+stmt+table+tried+typed+unary.Lts-unary as unary-lts
 use Rattle.cursor.proofs.checks.check.Reads as check-reads
 use Rattle.cursor.proofs.checks.eat.Reads as eat-reads
 use Rattle.cursor.proofs.checks.eat_range.Reads as eat-range-reads
@@ -202,7 +202,8 @@ use Rattle.parts.proofs.steps.items_end.Reads as items-end-reads
 use Rattle.parts.proofs.steps.leaf.Reads as leaf-reads
 use Rattle.parts.proofs.steps.lit_key.Reads as lit-key-reads
 use Rattle.parts.proofs.steps.loop_names.Reads as loop-names-reads
-use Rattle.parts.proofs.steps.meta_end.Reads as meta-end-reads
+use Rattle.parts.proofs.steps.meta_member.Reads as meta-member-reads
+use Rattle.parts.proofs.steps.name_member.Reads as name-member-reads
 use Rattle.parts.proofs.steps.no_member.Reads as no-member-reads
 use Rattle.parts.proofs.steps.operator_of.Reads as operator-of-reads
 use Rattle.parts.proofs.steps.paren_key.Reads as paren-key-reads
@@ -220,10 +221,10 @@ use Rattle.types.proofs.types.params.Reads as params-reads
 use Rattle.types.proofs.types.returns.Reads as returns-reads
 use Rattle.types.proofs.types.ty.Reads as ty-reads
 use Rattle.types.proofs.types.typed_ident.Reads as typed-ident-reads
-use Rattle.exprs.proofs.exprs.+anon+arms+assign+atom+block+brace+call+case+catch+cond+def+each+expr+exprs+field+form+func+glo+group+head+item+items+key+lhs+loops+many+op+path+plain+post+prec+prim+rhs+set+stmt+table+tried+typed+unary.{
+use Rattle.exprs.proofs.exprs.+anon+arms+assign+atom+block+brace+call+case+cond+def+each+expr+exprs+form+func+glo+group+hand+head+item+items+key+lhs+loops+many+member+op+path+plain+post+prec+prim+rhs+set+stmt+table+tried+typed+unary.{
   statement,
 }
-use Rattle.exprs.proofs.exprs.+anon+arms+assign+atom+block+brace+call+case+catch+cond+def+each+expr+exprs+field+form+func+glo+group+head+item+items+key+lhs+loops+many+op+path+plain+post+prec+prim+rhs+set+stmt+table+tried+typed+unary.Tie.{
+use Rattle.exprs.proofs.exprs.+anon+arms+assign+atom+block+brace+call+case+cond+def+each+expr+exprs+form+func+glo+group+hand+head+item+items+key+lhs+loops+many+member+op+path+plain+post+prec+prim+rhs+set+stmt+table+tried+typed+unary.Tie.{
   close,
 }
 use borrow.Author.Needs.{needs}
@@ -252,9 +253,6 @@ abbrev μ-call : Measures 6 call-kinds.ps ℕ
 abbrev μ-case : Measures 6 case-kinds.ps ℕ
 μ-case κs a = 20 * a .1 .1 .1 .1 .1 .1 .0 .depth + 2
 
-abbrev μ-catch : Measures 6 catch-kinds.ps ℕ
-μ-catch κs a = 20 * a .1 .1 .1 .1 .1 .1 .0 .depth + 2
-
 abbrev μ-cond : Measures 6 cond-kinds.ps ℕ
 μ-cond κs a = 20 * a .1 .1 .1 .1 .1 .1 .0 .depth + 3
 
@@ -270,9 +268,6 @@ abbrev μ-expr : Measures 6 expr-kinds.ps ℕ
 abbrev μ-exprs : Measures 6 exprs-kinds.ps ℕ
 μ-exprs κs a = 20 * a .1 .1 .1 .1 .1 .1 .0 .depth
 
-abbrev μ-field : Measures 6 field-kinds.ps ℕ
-μ-field κs a = 20 * a .1 .1 .1 .1 .1 .1 .0 .depth + 2
-
 abbrev μ-form : Measures 6 form-kinds.ps ℕ
 μ-form κs a = 20 * a .1 .1 .1 .1 .1 .1 .0 .depth + 8
 
@@ -284,6 +279,9 @@ abbrev μ-glo : Measures 6 glo-kinds.ps ℕ
 
 abbrev μ-group : Measures 6 group-kinds.ps ℕ
 μ-group κs a = 20 * a .1 .1 .1 .1 .1 .1 .0 .depth + 6
+
+abbrev μ-hand : Measures 6 hand-kinds.ps ℕ
+μ-hand κs a = 20 * a .1 .1 .1 .1 .1 .1 .0 .depth + 2
 
 abbrev μ-head : Measures 6 head-kinds.ps ℕ
 μ-head κs a = 20 * a .1 .1 .1 .1 .1 .1 .0 .depth + 2
@@ -305,6 +303,9 @@ abbrev μ-loops : Measures 6 loops-kinds.ps ℕ
 
 abbrev μ-many : Measures 6 many-kinds.ps ℕ
 μ-many κs a = 20 * a .1 .1 .1 .1 .1 .1 .0 .depth + 3
+
+abbrev μ-member : Measures 6 member-kinds.ps ℕ
+μ-member κs a = 20 * a .1 .1 .1 .1 .1 .1 .0 .depth + 2
 
 abbrev μ-op : Measures 6 op-kinds.ps ℕ
 μ-op κs a = 20 * a .1 .1 .1 .1 .1 .1 .0 .depth + 1
@@ -393,12 +394,6 @@ case-at t = and 6 case-kinds.ps (is 6 case-kinds.ps μ-case t) case.Pre
 abbrev case-below : ℕ → In 6 case-kinds.ps
 case-below t = and 6 case-kinds.ps (falls 6 case-kinds.ps _<_ μ-case t) case.Pre
 
-abbrev catch-at : ℕ → In 6 catch-kinds.ps
-catch-at t = and 6 catch-kinds.ps (is 6 catch-kinds.ps μ-catch t) catch.Pre
-
-abbrev catch-below : ℕ → In 6 catch-kinds.ps
-catch-below t = and 6 catch-kinds.ps (falls 6 catch-kinds.ps _<_ μ-catch t) catch.Pre
-
 abbrev cond-at : ℕ → In 6 cond-kinds.ps
 cond-at t = and 6 cond-kinds.ps (is 6 cond-kinds.ps μ-cond t) cond.Pre
 
@@ -429,12 +424,6 @@ exprs-at t = and 6 exprs-kinds.ps (is 6 exprs-kinds.ps μ-exprs t) exprs.Pre
 abbrev exprs-below : ℕ → In 6 exprs-kinds.ps
 exprs-below t = and 6 exprs-kinds.ps (falls 6 exprs-kinds.ps _<_ μ-exprs t) exprs.Pre
 
-abbrev field-at : ℕ → In 6 field-kinds.ps
-field-at t = and 6 field-kinds.ps (is 6 field-kinds.ps μ-field t) field.Pre
-
-abbrev field-below : ℕ → In 6 field-kinds.ps
-field-below t = and 6 field-kinds.ps (falls 6 field-kinds.ps _<_ μ-field t) field.Pre
-
 abbrev form-at : ℕ → In 6 form-kinds.ps
 form-at t = and 6 form-kinds.ps (is 6 form-kinds.ps μ-form t) form.Pre
 
@@ -458,6 +447,12 @@ group-at t = and 6 group-kinds.ps (is 6 group-kinds.ps μ-group t) group.Pre
 
 abbrev group-below : ℕ → In 6 group-kinds.ps
 group-below t = and 6 group-kinds.ps (falls 6 group-kinds.ps _<_ μ-group t) group.Pre
+
+abbrev hand-at : ℕ → In 6 hand-kinds.ps
+hand-at t = and 6 hand-kinds.ps (is 6 hand-kinds.ps μ-hand t) hand.Pre
+
+abbrev hand-below : ℕ → In 6 hand-kinds.ps
+hand-below t = and 6 hand-kinds.ps (falls 6 hand-kinds.ps _<_ μ-hand t) hand.Pre
 
 abbrev head-at : ℕ → In 6 head-kinds.ps
 head-at t = and 6 head-kinds.ps (is 6 head-kinds.ps μ-head t) head.Pre
@@ -500,6 +495,12 @@ many-at t = and 6 many-kinds.ps (is 6 many-kinds.ps μ-many t) many.Pre
 
 abbrev many-below : ℕ → In 6 many-kinds.ps
 many-below t = and 6 many-kinds.ps (falls 6 many-kinds.ps _<_ μ-many t) many.Pre
+
+abbrev member-at : ℕ → In 6 member-kinds.ps
+member-at t = and 6 member-kinds.ps (is 6 member-kinds.ps μ-member t) member.Pre
+
+abbrev member-below : ℕ → In 6 member-kinds.ps
+member-below t = and 6 member-kinds.ps (falls 6 member-kinds.ps _<_ μ-member t) member.Pre
 
 abbrev op-at : ℕ → In 6 op-kinds.ps
 op-at t = and 6 op-kinds.ps (is 6 op-kinds.ps μ-op t) op.Pre
@@ -5081,438 +5082,6 @@ case-returns-4 : (t : ℕ) → case-lts.Need-returns-4 (
 ) (case-at t) case.Post
 case-returns-4 t c = let c₁ = c .before in let c₂ = c₁ .before .before .before .before .before .before .before .before in let c₃ = c₂ .before .before .before .before .before .before in let c₄ = c₃ .before .before in let c₅ = c₄ .before .before .before in let c₆ = c₅ .before .before .before .before in let c₇ = c₆ .before .before .before in sym (ao.case-lost _ _ _ (c₇ .start-range .ensures) (via asRowed (c₆ .case-patterns .ensures _ _) (c₅ .listed .given .1)) (via asMoved (c₄ .expect .ensures _ _ _ _) (c₃ .arrow .given .1)) (via asBuilt (c₂ .expr .ensures) (c₁ .read2 .given .1)))
 
-catch-start-range-requires : (t : ℕ) → catch-lts.Need-start-range-requires (
-  start-range-reads.Asked,
-  start-range-reads.Learnt,
-  expect-reads.Asked,
-  expect-reads.Learnt,
-  ident-reads.Asked,
-  ident-reads.Learnt,
-  params-reads.Asked,
-  params-reads.Learnt,
-  block-below t,
-  block.Post,
-  handler-record-reads.Asked,
-  handler-record-reads.Learnt,
-) (catch-at t) catch.Post
-catch-start-range-requires t c κs = tt
-
-catch-expect-requires : (t : ℕ) → catch-lts.Need-expect-requires (
-  start-range-reads.Asked,
-  start-range-reads.Learnt,
-  expect-reads.Asked,
-  expect-reads.Learnt,
-  ident-reads.Asked,
-  ident-reads.Learnt,
-  params-reads.Asked,
-  params-reads.Learnt,
-  block-below t,
-  block.Post,
-  handler-record-reads.Asked,
-  handler-record-reads.Learnt,
-) (catch-at t) catch.Post
-catch-expect-requires t c κs = tt
-
-catch-enum-known-opened : (t : ℕ) → catch-lts.Need-enum-known-opened (
-  start-range-reads.Asked,
-  start-range-reads.Learnt,
-  expect-reads.Asked,
-  expect-reads.Learnt,
-  ident-reads.Asked,
-  ident-reads.Learnt,
-  params-reads.Asked,
-  params-reads.Learnt,
-  block-below t,
-  block.Post,
-  handler-record-reads.Asked,
-  handler-record-reads.Learnt,
-) (catch-at t) catch.Post
-catch-enum-known-opened t c = c .match .keys1
-
-catch-enum-known-opened-2 : (t : ℕ) → catch-lts.Need-enum-known-opened-2 (
-  start-range-reads.Asked,
-  start-range-reads.Learnt,
-  expect-reads.Asked,
-  expect-reads.Learnt,
-  ident-reads.Asked,
-  ident-reads.Learnt,
-  params-reads.Asked,
-  params-reads.Learnt,
-  block-below t,
-  block.Post,
-  handler-record-reads.Asked,
-  handler-record-reads.Learnt,
-) (catch-at t) catch.Post
-catch-enum-known-opened-2 t c = c .match .keys2
-
-catch-returns : (t : ℕ) → catch-lts.Need-returns (
-  start-range-reads.Asked,
-  start-range-reads.Learnt,
-  expect-reads.Asked,
-  expect-reads.Learnt,
-  ident-reads.Asked,
-  ident-reads.Learnt,
-  params-reads.Asked,
-  params-reads.Learnt,
-  block-below t,
-  block.Post,
-  handler-record-reads.Asked,
-  handler-record-reads.Learnt,
-) (catch-at t) catch.Post
-catch-returns t c = let c₁ = c .before in let c₂ = c₁ .before .before in let c₃ = c₂ .before .before in sym (pc.handler-open _ _ _ (c₃ .start-range .ensures) (via asMoved (c₂ .expect .ensures _ _ _ _) (c₁ .opened2 .given .1)))
-
-catch-ident-requires : (t : ℕ) → catch-lts.Need-ident-requires (
-  start-range-reads.Asked,
-  start-range-reads.Learnt,
-  expect-reads.Asked,
-  expect-reads.Learnt,
-  ident-reads.Asked,
-  ident-reads.Learnt,
-  params-reads.Asked,
-  params-reads.Learnt,
-  block-below t,
-  block.Post,
-  handler-record-reads.Asked,
-  handler-record-reads.Learnt,
-) (catch-at t) catch.Post
-catch-ident-requires t c κs = tt
-
-catch-enum-known-named : (t : ℕ) → catch-lts.Need-enum-known-named (
-  start-range-reads.Asked,
-  start-range-reads.Learnt,
-  expect-reads.Asked,
-  expect-reads.Learnt,
-  ident-reads.Asked,
-  ident-reads.Learnt,
-  params-reads.Asked,
-  params-reads.Learnt,
-  block-below t,
-  block.Post,
-  handler-record-reads.Asked,
-  handler-record-reads.Learnt,
-) (catch-at t) catch.Post
-catch-enum-known-named t c = c .match2 .keys1
-
-catch-enum-known-named-2 : (t : ℕ) → catch-lts.Need-enum-known-named-2 (
-  start-range-reads.Asked,
-  start-range-reads.Learnt,
-  expect-reads.Asked,
-  expect-reads.Learnt,
-  ident-reads.Asked,
-  ident-reads.Learnt,
-  params-reads.Asked,
-  params-reads.Learnt,
-  block-below t,
-  block.Post,
-  handler-record-reads.Asked,
-  handler-record-reads.Learnt,
-) (catch-at t) catch.Post
-catch-enum-known-named-2 t c = c .match2 .keys2
-
-catch-same-length : (t : ℕ) → catch-lts.Need-same-length (
-  start-range-reads.Asked,
-  start-range-reads.Learnt,
-  expect-reads.Asked,
-  expect-reads.Learnt,
-  ident-reads.Asked,
-  ident-reads.Learnt,
-  params-reads.Asked,
-  params-reads.Learnt,
-  block-below t,
-  block.Post,
-  handler-record-reads.Asked,
-  handler-record-reads.Learnt,
-) (catch-at t) catch.Post
-catch-same-length t c = (c .before .before .before .before .before .ident .kept .1 .0)
-
-catch-returns-2 : (t : ℕ) → catch-lts.Need-returns-2 (
-  start-range-reads.Asked,
-  start-range-reads.Learnt,
-  expect-reads.Asked,
-  expect-reads.Learnt,
-  ident-reads.Asked,
-  ident-reads.Learnt,
-  params-reads.Asked,
-  params-reads.Learnt,
-  block-below t,
-  block.Post,
-  handler-record-reads.Asked,
-  handler-record-reads.Learnt,
-) (catch-at t) catch.Post
-catch-returns-2 t c = let c₁ = c .before in let c₂ = c₁ .before .before .before .before in let c₃ = c₂ .before .before .before .before in let c₄ = c₃ .before .before in let c₅ = c₄ .before .before in sym (pc.handler-bare _ _ _ (c₅ .start-range .ensures) (via asMoved (c₄ .expect .ensures _ _ _ _) (c₃ .opened .given .1)) (via asBuilt (c₂ .ident .ensures _ _ _) (c₁ .named2 .given .1)))
-
-catch-params-requires : (t : ℕ) → catch-lts.Need-params-requires (
-  start-range-reads.Asked,
-  start-range-reads.Learnt,
-  expect-reads.Asked,
-  expect-reads.Learnt,
-  ident-reads.Asked,
-  ident-reads.Learnt,
-  params-reads.Asked,
-  params-reads.Learnt,
-  block-below t,
-  block.Post,
-  handler-record-reads.Asked,
-  handler-record-reads.Learnt,
-) (catch-at t) catch.Post
-catch-params-requires t c κs = tt
-
-catch-enum-known-listed : (t : ℕ) → catch-lts.Need-enum-known-listed (
-  start-range-reads.Asked,
-  start-range-reads.Learnt,
-  expect-reads.Asked,
-  expect-reads.Learnt,
-  ident-reads.Asked,
-  ident-reads.Learnt,
-  params-reads.Asked,
-  params-reads.Learnt,
-  block-below t,
-  block.Post,
-  handler-record-reads.Asked,
-  handler-record-reads.Learnt,
-) (catch-at t) catch.Post
-catch-enum-known-listed t c = c .match3 .keys1
-
-catch-enum-known-listed-2 : (t : ℕ) → catch-lts.Need-enum-known-listed-2 (
-  start-range-reads.Asked,
-  start-range-reads.Learnt,
-  expect-reads.Asked,
-  expect-reads.Learnt,
-  ident-reads.Asked,
-  ident-reads.Learnt,
-  params-reads.Asked,
-  params-reads.Learnt,
-  block-below t,
-  block.Post,
-  handler-record-reads.Asked,
-  handler-record-reads.Learnt,
-) (catch-at t) catch.Post
-catch-enum-known-listed-2 t c = c .match3 .keys2
-
-catch-same-length-2 : (t : ℕ) → catch-lts.Need-same-length-2 (
-  start-range-reads.Asked,
-  start-range-reads.Learnt,
-  expect-reads.Asked,
-  expect-reads.Learnt,
-  ident-reads.Asked,
-  ident-reads.Learnt,
-  params-reads.Asked,
-  params-reads.Learnt,
-  block-below t,
-  block.Post,
-  handler-record-reads.Asked,
-  handler-record-reads.Learnt,
-) (catch-at t) catch.Post
-catch-same-length-2 t c = let c₁ = c .before .before .before .before .before in let c₂ = c₁ .before .before .before .before .before .before .before .before in (c₁ .params .kept .1 .1 .0) ∙ (c₂ .ident .kept .1 .0)
-
-catch-returns-3 : (t : ℕ) → catch-lts.Need-returns-3 (
-  start-range-reads.Asked,
-  start-range-reads.Learnt,
-  expect-reads.Asked,
-  expect-reads.Learnt,
-  ident-reads.Asked,
-  ident-reads.Learnt,
-  params-reads.Asked,
-  params-reads.Learnt,
-  block-below t,
-  block.Post,
-  handler-record-reads.Asked,
-  handler-record-reads.Learnt,
-) (catch-at t) catch.Post
-catch-returns-3 t c = let c₁ = c .before in let c₂ = c₁ .before .before .before .before in let c₃ = c₂ .before .before .before .before in let c₄ = c₃ .before .before .before .before in let c₅ = c₄ .before .before .before .before in let c₆ = c₅ .before .before in let c₇ = c₆ .before .before in sym (pc.handler-failed _ _ _ (c₇ .start-range .ensures) (via asMoved (c₆ .expect .ensures _ _ _ _) (c₅ .opened .given .1)) (via asBuilt (c₄ .ident .ensures _ _ _) (c₃ .named .given .1)) (via asListed (c₂ .params .ensures _ _) (c₁ .listed2 .given .1)))
-
-catch-block-requires : (t : ℕ) → catch-lts.Need-block-requires (
-  start-range-reads.Asked,
-  start-range-reads.Learnt,
-  expect-reads.Asked,
-  expect-reads.Learnt,
-  ident-reads.Asked,
-  ident-reads.Learnt,
-  params-reads.Asked,
-  params-reads.Learnt,
-  block-below t,
-  block.Post,
-  handler-record-reads.Asked,
-  handler-record-reads.Learnt,
-) (catch-at t) catch.Post
-catch-block-requires t c κs = (omega (arith, c .before .before .before .before .before .before .before .before .before .before .before .before .before .before .before .before .before .before .before .before .before .before .before .before .before .before .before .before .before .before .before .before .pre .0), tt)
-
-catch-enum-known-read : (t : ℕ) → catch-lts.Need-enum-known-read (
-  start-range-reads.Asked,
-  start-range-reads.Learnt,
-  expect-reads.Asked,
-  expect-reads.Learnt,
-  ident-reads.Asked,
-  ident-reads.Learnt,
-  params-reads.Asked,
-  params-reads.Learnt,
-  block-below t,
-  block.Post,
-  handler-record-reads.Asked,
-  handler-record-reads.Learnt,
-) (catch-at t) catch.Post
-catch-enum-known-read t c = c .match4 .keys1
-
-catch-handler-record-requires : (t : ℕ) → catch-lts.Need-handler-record-requires (
-  start-range-reads.Asked,
-  start-range-reads.Learnt,
-  expect-reads.Asked,
-  expect-reads.Learnt,
-  ident-reads.Asked,
-  ident-reads.Learnt,
-  params-reads.Asked,
-  params-reads.Learnt,
-  block-below t,
-  block.Post,
-  handler-record-reads.Asked,
-  handler-record-reads.Learnt,
-) (catch-at t) catch.Post
-catch-handler-record-requires t c κs = tt
-
-catch-enum-known-read-2 : (t : ℕ) → catch-lts.Need-enum-known-read-2 (
-  start-range-reads.Asked,
-  start-range-reads.Learnt,
-  expect-reads.Asked,
-  expect-reads.Learnt,
-  ident-reads.Asked,
-  ident-reads.Learnt,
-  params-reads.Asked,
-  params-reads.Learnt,
-  block-below t,
-  block.Post,
-  handler-record-reads.Asked,
-  handler-record-reads.Learnt,
-) (catch-at t) catch.Post
-catch-enum-known-read-2 t c = c .match4 .keys2
-
-catch-same-length-3 : (t : ℕ) → catch-lts.Need-same-length-3 (
-  start-range-reads.Asked,
-  start-range-reads.Learnt,
-  expect-reads.Asked,
-  expect-reads.Learnt,
-  ident-reads.Asked,
-  ident-reads.Learnt,
-  params-reads.Asked,
-  params-reads.Learnt,
-  block-below t,
-  block.Post,
-  handler-record-reads.Asked,
-  handler-record-reads.Learnt,
-) (catch-at t) catch.Post
-catch-same-length-3 t c = let c₁ = c .before .before in let c₂ = c₁ .before .before .before .before .before .before .before .before .before .before .before in let c₃ = c₂ .before .before .before .before .before .before .before .before .before .before in let c₄ = c₃ .before .before .before .before .before .before .before .before in (c₁ .handler-record .kept .0) ∙ (c₂ .block .kept .1 .1 .0) ∙ (c₃ .params .kept .1 .1 .0) ∙ (c₄ .ident .kept .1 .0)
-
-catch-same-length-4 : (t : ℕ) → catch-lts.Need-same-length-4 (
-  start-range-reads.Asked,
-  start-range-reads.Learnt,
-  expect-reads.Asked,
-  expect-reads.Learnt,
-  ident-reads.Asked,
-  ident-reads.Learnt,
-  params-reads.Asked,
-  params-reads.Learnt,
-  block-below t,
-  block.Post,
-  handler-record-reads.Asked,
-  handler-record-reads.Learnt,
-) (catch-at t) catch.Post
-catch-same-length-4 t c = (c .before .before .before .before .before .before .before .before .before .before .before .before .before .block .kept .1 .1 .1 .0)
-
-catch-same-length-5 : (t : ℕ) → catch-lts.Need-same-length-5 (
-  start-range-reads.Asked,
-  start-range-reads.Learnt,
-  expect-reads.Asked,
-  expect-reads.Learnt,
-  ident-reads.Asked,
-  ident-reads.Learnt,
-  params-reads.Asked,
-  params-reads.Learnt,
-  block-below t,
-  block.Post,
-  handler-record-reads.Asked,
-  handler-record-reads.Learnt,
-) (catch-at t) catch.Post
-catch-same-length-5 t c = (c .before .before .before .before .before .before .before .before .before .before .before .before .before .block .kept .1 .1 .1 .1 .0)
-
-catch-returns-4 : (t : ℕ) → catch-lts.Need-returns-4 (
-  start-range-reads.Asked,
-  start-range-reads.Learnt,
-  expect-reads.Asked,
-  expect-reads.Learnt,
-  ident-reads.Asked,
-  ident-reads.Learnt,
-  params-reads.Asked,
-  params-reads.Learnt,
-  block-below t,
-  block.Post,
-  handler-record-reads.Asked,
-  handler-record-reads.Learnt,
-) (catch-at t) catch.Post
-catch-returns-4 t c = let c₁ = c .before .before in let c₂ = c₁ .before .before .before in let c₃ = c₂ .before .before .before .before .before .before .before .before in let c₄ = c₃ .before .before .before .before .before .before in let c₅ = c₄ .before .before .before .before in let c₆ = c₅ .before .before .before .before in let c₇ = c₆ .before .before .before .before in let c₈ = c₇ .before .before .before .before in let c₉ = c₈ .before .before in let c₁₀ = c₉ .before .before in c₁ .handler-record .ensures _ _ _ ∙ sym (pc.handler-on _ _ _ (c₁₀ .start-range .ensures) (via asMoved (c₉ .expect .ensures _ _ _ _) (c₈ .opened .given .1)) (via asBuilt (c₇ .ident .ensures _ _ _) (c₆ .named .given .1)) (via asListed (c₅ .params .ensures _ _) (c₄ .listed .given .1)) (via asBuilt (c₃ .block .ensures) (c₂ .read .given .1)))
-
-catch-same-length-6 : (t : ℕ) → catch-lts.Need-same-length-6 (
-  start-range-reads.Asked,
-  start-range-reads.Learnt,
-  expect-reads.Asked,
-  expect-reads.Learnt,
-  ident-reads.Asked,
-  ident-reads.Learnt,
-  params-reads.Asked,
-  params-reads.Learnt,
-  block-below t,
-  block.Post,
-  handler-record-reads.Asked,
-  handler-record-reads.Learnt,
-) (catch-at t) catch.Post
-catch-same-length-6 t c = let c₁ = c .before .before .before .before .before .before .before .before .before in let c₂ = c₁ .before .before .before .before .before .before .before .before .before .before in let c₃ = c₂ .before .before .before .before .before .before .before .before in (c₁ .block .kept .1 .1 .0) ∙ (c₂ .params .kept .1 .1 .0) ∙ (c₃ .ident .kept .1 .0)
-
-catch-same-length-7 : (t : ℕ) → catch-lts.Need-same-length-7 (
-  start-range-reads.Asked,
-  start-range-reads.Learnt,
-  expect-reads.Asked,
-  expect-reads.Learnt,
-  ident-reads.Asked,
-  ident-reads.Learnt,
-  params-reads.Asked,
-  params-reads.Learnt,
-  block-below t,
-  block.Post,
-  handler-record-reads.Asked,
-  handler-record-reads.Learnt,
-) (catch-at t) catch.Post
-catch-same-length-7 t c = (c .before .before .before .before .before .before .before .before .before .block .kept .1 .1 .1 .0)
-
-catch-same-length-8 : (t : ℕ) → catch-lts.Need-same-length-8 (
-  start-range-reads.Asked,
-  start-range-reads.Learnt,
-  expect-reads.Asked,
-  expect-reads.Learnt,
-  ident-reads.Asked,
-  ident-reads.Learnt,
-  params-reads.Asked,
-  params-reads.Learnt,
-  block-below t,
-  block.Post,
-  handler-record-reads.Asked,
-  handler-record-reads.Learnt,
-) (catch-at t) catch.Post
-catch-same-length-8 t c = (c .before .before .before .before .before .before .before .before .before .block .kept .1 .1 .1 .1 .0)
-
-catch-returns-5 : (t : ℕ) → catch-lts.Need-returns-5 (
-  start-range-reads.Asked,
-  start-range-reads.Learnt,
-  expect-reads.Asked,
-  expect-reads.Learnt,
-  ident-reads.Asked,
-  ident-reads.Learnt,
-  params-reads.Asked,
-  params-reads.Learnt,
-  block-below t,
-  block.Post,
-  handler-record-reads.Asked,
-  handler-record-reads.Learnt,
-) (catch-at t) catch.Post
-catch-returns-5 t c = let c₁ = c .before in let c₂ = c₁ .before .before .before .before .before .before .before .before in let c₃ = c₂ .before .before .before .before .before .before in let c₄ = c₃ .before .before .before .before in let c₅ = c₄ .before .before .before .before in let c₆ = c₅ .before .before .before .before in let c₇ = c₆ .before .before .before .before in let c₈ = c₇ .before .before in let c₉ = c₈ .before .before in sym (pc.handler-lost _ _ _ (c₉ .start-range .ensures) (via asMoved (c₈ .expect .ensures _ _ _ _) (c₇ .opened .given .1)) (via asBuilt (c₆ .ident .ensures _ _ _) (c₅ .named .given .1)) (via asListed (c₄ .params .ensures _ _) (c₃ .listed .given .1)) (via asBuilt (c₂ .block .ensures) (c₁ .read2 .given .1)))
-
 cond-bump-requires : (t : ℕ) → cond-lts.Need-bump-requires (
   bump-reads.Asked,
   bump-reads.Learnt,
@@ -7010,7 +6579,7 @@ expr-returns-2 : (t : ℕ) → expr-lts.Need-returns-2 (
 expr-returns-2 t c = sym (st.expr-failed _ _ _ _ (via asParsed (c .before .before .before .before .before .before .before .before .before .prec .ensures) (c .before .read2 .given .1)))
 
 abbrev exprs-Inv-loop : exprs-lts.InvT-loop
-exprs-Inv-loop text tokens nodes₀ errors₀ wanted₀ live₀ end depth limits inner t₀ row₀ nodes errors wanted live t row = (iterate (sheet text tokens limits) (bodyTurn (levels (sheet text tokens limits) (depth - 1)) end) row₀ t₀ (world nodes₀ errors₀ wanted₀ live₀) ≡ iterate (sheet text tokens limits) (bodyTurn (levels (sheet text tokens limits) (depth - 1)) end) row t (world nodes errors wanted live)) × (length nodes ≡ length nodes₀) × (length errors ≡ length errors₀) × (length wanted ≡ length wanted₀)
+exprs-Inv-loop text tokens nodes₀ errors₀ wanted₀ live₀ end depth limits inner t₀ row₀ nodes errors wanted live t row = (iterate (sheet text tokens limits) (exprsTurn (levels (sheet text tokens limits) (depth - 1)) end) row₀ t₀ (world nodes₀ errors₀ wanted₀ live₀) ≡ iterate (sheet text tokens limits) (exprsTurn (levels (sheet text tokens limits) (depth - 1)) end) row t (world nodes errors wanted live)) × (length nodes ≡ length nodes₀) × (length errors ≡ length errors₀) × (length wanted ≡ length wanted₀)
 
 abbrev exprs-μ-loop : exprs-lts.MeasureT-loop
 exprs-μ-loop text tokens nodes₀ errors₀ wanted₀ live₀ end depth limits inner t₀ row₀ nodes errors wanted live t row = count tokens - t .at
@@ -7588,518 +7157,6 @@ exprs-returns-7 : (t : ℕ) → exprs-lts.Need-returns-7 (
   after-stmt-reads.Learnt,
 ) (exprs-at t) exprs.Post exprs-Inv-loop exprs-μ-loop
 exprs-returns-7 t c = let c₁ = c .before in let c₂ = c₁ .before .before .before .before .before .before .before .before in let c₃ = c₂ .before .before .before .before .before .before in let c₄ = c₃ .before .before .before .before .before .before in let c₅ = c₄ .before .before .before .before .before .before .before .before .before .before in let c₆ = c₅ .before .before .before .before .before .before in let c₇ = c₆ .before .before in let c₈ = c₇ .before .before in let c₉ = c₈ .before .before in let c₁₀ = c₉ .before .before in let c₁₁ = c₁₀ .before .before in sym (lv.body-begin _ _ _ _ _ (c₁₁ .if1 .left) (via asMoved (c₁₀ .eat-eol .ensures _ _) (c₉ .begun .given .1)) ∙ c₈ .loop .inv .0 ∙ turning.loop-failed _ _ (lv.body-on _ _ _ _ _ (via asTest (c₇ .eat .ensures _ _ _ _) (c₆ .closed2 .given .1)) (lv.stmt-or-is _ _ _ _ (c₅ .stmt .ensures) ∙ via asBuilt (c₄ .recovered .ensures _ _) (c₃ .read .given .1)) ∙ via asKidsTurned (c₂ .after-stmt .ensures _) (c₁ .turned3 .given .1)))
-
-field-bump-requires : (t : ℕ) → field-lts.Need-bump-requires (
-  bump-reads.Asked,
-  bump-reads.Learnt,
-  eat-reads.Asked,
-  eat-reads.Learnt,
-  meta-end-reads.Asked,
-  meta-end-reads.Learnt,
-  ident-reads.Asked,
-  ident-reads.Learnt,
-  expr-below t,
-  expr.Post,
-  expect-reads.Asked,
-  expect-reads.Learnt,
-) (field-at t) field.Post
-field-bump-requires t c κs = tt
-
-field-enum-known-opened : (t : ℕ) → field-lts.Need-enum-known-opened (
-  bump-reads.Asked,
-  bump-reads.Learnt,
-  eat-reads.Asked,
-  eat-reads.Learnt,
-  meta-end-reads.Asked,
-  meta-end-reads.Learnt,
-  ident-reads.Asked,
-  ident-reads.Learnt,
-  expr-below t,
-  expr.Post,
-  expect-reads.Asked,
-  expect-reads.Learnt,
-) (field-at t) field.Post
-field-enum-known-opened t c = c .match .keys1
-
-field-enum-known-opened-2 : (t : ℕ) → field-lts.Need-enum-known-opened-2 (
-  bump-reads.Asked,
-  bump-reads.Learnt,
-  eat-reads.Asked,
-  eat-reads.Learnt,
-  meta-end-reads.Asked,
-  meta-end-reads.Learnt,
-  ident-reads.Asked,
-  ident-reads.Learnt,
-  expr-below t,
-  expr.Post,
-  expect-reads.Asked,
-  expect-reads.Learnt,
-) (field-at t) field.Post
-field-enum-known-opened-2 t c = c .match .keys2
-
-field-returns : (t : ℕ) → field-lts.Need-returns (
-  bump-reads.Asked,
-  bump-reads.Learnt,
-  eat-reads.Asked,
-  eat-reads.Learnt,
-  meta-end-reads.Asked,
-  meta-end-reads.Learnt,
-  ident-reads.Asked,
-  ident-reads.Learnt,
-  expr-below t,
-  expr.Post,
-  expect-reads.Asked,
-  expect-reads.Learnt,
-) (field-at t) field.Post
-field-returns t c = sym (pm.member-spent _ _ _ _ (via asMoved (c .before .before .before .bump .ensures _ _) (c .before .opened2 .given .1)))
-
-field-eat-requires : (t : ℕ) → field-lts.Need-eat-requires (
-  bump-reads.Asked,
-  bump-reads.Learnt,
-  eat-reads.Asked,
-  eat-reads.Learnt,
-  meta-end-reads.Asked,
-  meta-end-reads.Learnt,
-  ident-reads.Asked,
-  ident-reads.Learnt,
-  expr-below t,
-  expr.Post,
-  expect-reads.Asked,
-  expect-reads.Learnt,
-) (field-at t) field.Post
-field-eat-requires t c κs = tt
-
-field-enum-known-meta : (t : ℕ) → field-lts.Need-enum-known-meta (
-  bump-reads.Asked,
-  bump-reads.Learnt,
-  eat-reads.Asked,
-  eat-reads.Learnt,
-  meta-end-reads.Asked,
-  meta-end-reads.Learnt,
-  ident-reads.Asked,
-  ident-reads.Learnt,
-  expr-below t,
-  expr.Post,
-  expect-reads.Asked,
-  expect-reads.Learnt,
-) (field-at t) field.Post
-field-enum-known-meta t c = c .match2 .keys1
-
-field-meta-end-requires : (t : ℕ) → field-lts.Need-meta-end-requires (
-  bump-reads.Asked,
-  bump-reads.Learnt,
-  eat-reads.Asked,
-  eat-reads.Learnt,
-  meta-end-reads.Asked,
-  meta-end-reads.Learnt,
-  ident-reads.Asked,
-  ident-reads.Learnt,
-  expr-below t,
-  expr.Post,
-  expect-reads.Asked,
-  expect-reads.Learnt,
-) (field-at t) field.Post
-field-meta-end-requires t c κs = tt
-
-field-returns-2 : (t : ℕ) → field-lts.Need-returns-2 (
-  bump-reads.Asked,
-  bump-reads.Learnt,
-  eat-reads.Asked,
-  eat-reads.Learnt,
-  meta-end-reads.Asked,
-  meta-end-reads.Learnt,
-  ident-reads.Asked,
-  ident-reads.Learnt,
-  expr-below t,
-  expr.Post,
-  expect-reads.Asked,
-  expect-reads.Learnt,
-) (field-at t) field.Post
-field-returns-2 t c = let c₁ = c .before .before .before in let c₂ = c₁ .before .before in let c₃ = c₂ .before .before .before in let c₄ = c₃ .before .before in c .meta-end .ensures _ _ _ _ ∙ sym (pm.member-meta _ _ _ _ (via asMoved (c₄ .bump .ensures _ _) (c₃ .opened .given .1)) (via asTest (c₂ .eat .ensures _ _ _ _) (c₁ .meta .given .1)))
-
-field-enum-known-meta-2 : (t : ℕ) → field-lts.Need-enum-known-meta-2 (
-  bump-reads.Asked,
-  bump-reads.Learnt,
-  eat-reads.Asked,
-  eat-reads.Learnt,
-  meta-end-reads.Asked,
-  meta-end-reads.Learnt,
-  ident-reads.Asked,
-  ident-reads.Learnt,
-  expr-below t,
-  expr.Post,
-  expect-reads.Asked,
-  expect-reads.Learnt,
-) (field-at t) field.Post
-field-enum-known-meta-2 t c = c .match2 .keys2
-
-field-enum-known-meta-3 : (t : ℕ) → field-lts.Need-enum-known-meta-3 (
-  bump-reads.Asked,
-  bump-reads.Learnt,
-  eat-reads.Asked,
-  eat-reads.Learnt,
-  meta-end-reads.Asked,
-  meta-end-reads.Learnt,
-  ident-reads.Asked,
-  ident-reads.Learnt,
-  expr-below t,
-  expr.Post,
-  expect-reads.Asked,
-  expect-reads.Learnt,
-) (field-at t) field.Post
-field-enum-known-meta-3 t c = c .match2 .keys3
-
-field-returns-3 : (t : ℕ) → field-lts.Need-returns-3 (
-  bump-reads.Asked,
-  bump-reads.Learnt,
-  eat-reads.Asked,
-  eat-reads.Learnt,
-  meta-end-reads.Asked,
-  meta-end-reads.Learnt,
-  ident-reads.Asked,
-  ident-reads.Learnt,
-  expr-below t,
-  expr.Post,
-  expect-reads.Asked,
-  expect-reads.Learnt,
-) (field-at t) field.Post
-field-returns-3 t c = let c₁ = c .before in let c₂ = c₁ .before .before in let c₃ = c₂ .before .before .before in let c₄ = c₃ .before .before in sym (pm.member-full _ _ _ _ (via asMoved (c₄ .bump .ensures _ _) (c₃ .opened .given .1)) (via asTest (c₂ .eat .ensures _ _ _ _) (c₁ .meta3 .given .1)))
-
-field-ident-requires : (t : ℕ) → field-lts.Need-ident-requires (
-  bump-reads.Asked,
-  bump-reads.Learnt,
-  eat-reads.Asked,
-  eat-reads.Learnt,
-  meta-end-reads.Asked,
-  meta-end-reads.Learnt,
-  ident-reads.Asked,
-  ident-reads.Learnt,
-  expr-below t,
-  expr.Post,
-  expect-reads.Asked,
-  expect-reads.Learnt,
-) (field-at t) field.Post
-field-ident-requires t c κs = tt
-
-field-same-length : (t : ℕ) → field-lts.Need-same-length (
-  bump-reads.Asked,
-  bump-reads.Learnt,
-  eat-reads.Asked,
-  eat-reads.Learnt,
-  meta-end-reads.Asked,
-  meta-end-reads.Learnt,
-  ident-reads.Asked,
-  ident-reads.Learnt,
-  expr-below t,
-  expr.Post,
-  expect-reads.Asked,
-  expect-reads.Learnt,
-) (field-at t) field.Post
-field-same-length t c = (c .before .before .ident .kept .1 .0)
-
-field-returns-4 : (t : ℕ) → field-lts.Need-returns-4 (
-  bump-reads.Asked,
-  bump-reads.Learnt,
-  eat-reads.Asked,
-  eat-reads.Learnt,
-  meta-end-reads.Asked,
-  meta-end-reads.Learnt,
-  ident-reads.Asked,
-  ident-reads.Learnt,
-  expr-below t,
-  expr.Post,
-  expect-reads.Asked,
-  expect-reads.Learnt,
-) (field-at t) field.Post
-field-returns-4 t c = let c₁ = c .before .before in let c₂ = c₁ .before .before .before in let c₃ = c₂ .before .before in let c₄ = c₃ .before .before in let c₅ = c₄ .before .before .before in let c₆ = c₅ .before .before in c₁ .ident .ensures _ _ _ ∙ sym (pm.member-name _ _ _ _ (via asMoved (c₆ .bump .ensures _ _) (c₅ .opened .given .1)) (via asTest (c₄ .eat .ensures _ _ _ _) (c₃ .meta2 .given .1)) (c₂ .if1 .taken))
-
-field-expr-requires : (t : ℕ) → field-lts.Need-expr-requires (
-  bump-reads.Asked,
-  bump-reads.Learnt,
-  eat-reads.Asked,
-  eat-reads.Learnt,
-  meta-end-reads.Asked,
-  meta-end-reads.Learnt,
-  ident-reads.Asked,
-  ident-reads.Learnt,
-  expr-below t,
-  expr.Post,
-  expect-reads.Asked,
-  expect-reads.Learnt,
-) (field-at t) field.Post
-field-expr-requires t c κs = (omega (arith, c .before .before .before .before .before .before .before .before .before .before .before .before .before .before .before .before .before .before .before .before .pre .0), tt)
-
-field-enum-known-read : (t : ℕ) → field-lts.Need-enum-known-read (
-  bump-reads.Asked,
-  bump-reads.Learnt,
-  eat-reads.Asked,
-  eat-reads.Learnt,
-  meta-end-reads.Asked,
-  meta-end-reads.Learnt,
-  ident-reads.Asked,
-  ident-reads.Learnt,
-  expr-below t,
-  expr.Post,
-  expect-reads.Asked,
-  expect-reads.Learnt,
-) (field-at t) field.Post
-field-enum-known-read t c = c .match3 .keys1
-
-field-enum-known-read-2 : (t : ℕ) → field-lts.Need-enum-known-read-2 (
-  bump-reads.Asked,
-  bump-reads.Learnt,
-  eat-reads.Asked,
-  eat-reads.Learnt,
-  meta-end-reads.Asked,
-  meta-end-reads.Learnt,
-  ident-reads.Asked,
-  ident-reads.Learnt,
-  expr-below t,
-  expr.Post,
-  expect-reads.Asked,
-  expect-reads.Learnt,
-) (field-at t) field.Post
-field-enum-known-read-2 t c = c .match3 .keys2
-
-field-same-length-2 : (t : ℕ) → field-lts.Need-same-length-2 (
-  bump-reads.Asked,
-  bump-reads.Learnt,
-  eat-reads.Asked,
-  eat-reads.Learnt,
-  meta-end-reads.Asked,
-  meta-end-reads.Learnt,
-  ident-reads.Asked,
-  ident-reads.Learnt,
-  expr-below t,
-  expr.Post,
-  expect-reads.Asked,
-  expect-reads.Learnt,
-) (field-at t) field.Post
-field-same-length-2 t c = (c .before .before .before .before .before .before .before .before .before .expr .kept .1 .1 .0)
-
-field-same-length-3 : (t : ℕ) → field-lts.Need-same-length-3 (
-  bump-reads.Asked,
-  bump-reads.Learnt,
-  eat-reads.Asked,
-  eat-reads.Learnt,
-  meta-end-reads.Asked,
-  meta-end-reads.Learnt,
-  ident-reads.Asked,
-  ident-reads.Learnt,
-  expr-below t,
-  expr.Post,
-  expect-reads.Asked,
-  expect-reads.Learnt,
-) (field-at t) field.Post
-field-same-length-3 t c = (c .before .before .before .before .before .before .before .before .before .expr .kept .1 .1 .1 .0)
-
-field-same-length-4 : (t : ℕ) → field-lts.Need-same-length-4 (
-  bump-reads.Asked,
-  bump-reads.Learnt,
-  eat-reads.Asked,
-  eat-reads.Learnt,
-  meta-end-reads.Asked,
-  meta-end-reads.Learnt,
-  ident-reads.Asked,
-  ident-reads.Learnt,
-  expr-below t,
-  expr.Post,
-  expect-reads.Asked,
-  expect-reads.Learnt,
-) (field-at t) field.Post
-field-same-length-4 t c = (c .before .before .before .before .before .before .before .before .before .expr .kept .1 .1 .1 .1 .0)
-
-field-returns-5 : (t : ℕ) → field-lts.Need-returns-5 (
-  bump-reads.Asked,
-  bump-reads.Learnt,
-  eat-reads.Asked,
-  eat-reads.Learnt,
-  meta-end-reads.Asked,
-  meta-end-reads.Learnt,
-  ident-reads.Asked,
-  ident-reads.Learnt,
-  expr-below t,
-  expr.Post,
-  expect-reads.Asked,
-  expect-reads.Learnt,
-) (field-at t) field.Post
-field-returns-5 t c = let c₁ = c .before in let c₂ = c₁ .before .before .before .before .before .before .before .before in let c₃ = c₂ .before .before .before .before .before in let c₄ = c₃ .before .before in let c₅ = c₄ .before .before in let c₆ = c₅ .before .before .before in let c₇ = c₆ .before .before in sym (pm.member-failed _ _ _ _ (via asMoved (c₇ .bump .ensures _ _) (c₆ .opened .given .1)) (via asTest (c₅ .eat .ensures _ _ _ _) (c₄ .meta2 .given .1)) (c₃ .if1 .left) (via asBuilt (c₂ .expr .ensures) (c₁ .read2 .given .1)))
-
-field-expect-requires : (t : ℕ) → field-lts.Need-expect-requires (
-  bump-reads.Asked,
-  bump-reads.Learnt,
-  eat-reads.Asked,
-  eat-reads.Learnt,
-  meta-end-reads.Asked,
-  meta-end-reads.Learnt,
-  ident-reads.Asked,
-  ident-reads.Learnt,
-  expr-below t,
-  expr.Post,
-  expect-reads.Asked,
-  expect-reads.Learnt,
-) (field-at t) field.Post
-field-expect-requires t c κs = tt
-
-field-enum-known-closed : (t : ℕ) → field-lts.Need-enum-known-closed (
-  bump-reads.Asked,
-  bump-reads.Learnt,
-  eat-reads.Asked,
-  eat-reads.Learnt,
-  meta-end-reads.Asked,
-  meta-end-reads.Learnt,
-  ident-reads.Asked,
-  ident-reads.Learnt,
-  expr-below t,
-  expr.Post,
-  expect-reads.Asked,
-  expect-reads.Learnt,
-) (field-at t) field.Post
-field-enum-known-closed t c = c .match4 .keys1
-
-field-enum-known-closed-2 : (t : ℕ) → field-lts.Need-enum-known-closed-2 (
-  bump-reads.Asked,
-  bump-reads.Learnt,
-  eat-reads.Asked,
-  eat-reads.Learnt,
-  meta-end-reads.Asked,
-  meta-end-reads.Learnt,
-  ident-reads.Asked,
-  ident-reads.Learnt,
-  expr-below t,
-  expr.Post,
-  expect-reads.Asked,
-  expect-reads.Learnt,
-) (field-at t) field.Post
-field-enum-known-closed-2 t c = c .match4 .keys2
-
-field-same-length-5 : (t : ℕ) → field-lts.Need-same-length-5 (
-  bump-reads.Asked,
-  bump-reads.Learnt,
-  eat-reads.Asked,
-  eat-reads.Learnt,
-  meta-end-reads.Asked,
-  meta-end-reads.Learnt,
-  ident-reads.Asked,
-  ident-reads.Learnt,
-  expr-below t,
-  expr.Post,
-  expect-reads.Asked,
-  expect-reads.Learnt,
-) (field-at t) field.Post
-field-same-length-5 t c = (c .before .before .before .before .before .before .before .before .before .before .before .before .before .before .expr .kept .1 .1 .0)
-
-field-same-length-6 : (t : ℕ) → field-lts.Need-same-length-6 (
-  bump-reads.Asked,
-  bump-reads.Learnt,
-  eat-reads.Asked,
-  eat-reads.Learnt,
-  meta-end-reads.Asked,
-  meta-end-reads.Learnt,
-  ident-reads.Asked,
-  ident-reads.Learnt,
-  expr-below t,
-  expr.Post,
-  expect-reads.Asked,
-  expect-reads.Learnt,
-) (field-at t) field.Post
-field-same-length-6 t c = (c .before .before .before .before .before .before .before .before .before .before .before .before .before .before .expr .kept .1 .1 .1 .0)
-
-field-same-length-7 : (t : ℕ) → field-lts.Need-same-length-7 (
-  bump-reads.Asked,
-  bump-reads.Learnt,
-  eat-reads.Asked,
-  eat-reads.Learnt,
-  meta-end-reads.Asked,
-  meta-end-reads.Learnt,
-  ident-reads.Asked,
-  ident-reads.Learnt,
-  expr-below t,
-  expr.Post,
-  expect-reads.Asked,
-  expect-reads.Learnt,
-) (field-at t) field.Post
-field-same-length-7 t c = (c .before .before .before .before .before .before .before .before .before .before .before .before .before .before .expr .kept .1 .1 .1 .1 .0)
-
-field-returns-6 : (t : ℕ) → field-lts.Need-returns-6 (
-  bump-reads.Asked,
-  bump-reads.Learnt,
-  eat-reads.Asked,
-  eat-reads.Learnt,
-  meta-end-reads.Asked,
-  meta-end-reads.Learnt,
-  ident-reads.Asked,
-  ident-reads.Learnt,
-  expr-below t,
-  expr.Post,
-  expect-reads.Asked,
-  expect-reads.Learnt,
-) (field-at t) field.Post
-field-returns-6 t c = let c₁ = c .before in let c₂ = c₁ .before .before in let c₃ = c₂ .before .before .before in let c₄ = c₃ .before .before .before .before .before .before .before .before in let c₅ = c₄ .before .before .before .before .before in let c₆ = c₅ .before .before in let c₇ = c₆ .before .before in let c₈ = c₇ .before .before .before in let c₉ = c₈ .before .before in sym (pm.member-on _ _ _ _ (via asMoved (c₉ .bump .ensures _ _) (c₈ .opened .given .1)) (via asTest (c₇ .eat .ensures _ _ _ _) (c₆ .meta2 .given .1)) (c₅ .if1 .left) (via asBuilt (c₄ .expr .ensures) (c₃ .read .given .1)) (via asMoved (c₂ .expect .ensures _ _ _ _) (c₁ .closed .given .1)))
-
-field-same-length-8 : (t : ℕ) → field-lts.Need-same-length-8 (
-  bump-reads.Asked,
-  bump-reads.Learnt,
-  eat-reads.Asked,
-  eat-reads.Learnt,
-  meta-end-reads.Asked,
-  meta-end-reads.Learnt,
-  ident-reads.Asked,
-  ident-reads.Learnt,
-  expr-below t,
-  expr.Post,
-  expect-reads.Asked,
-  expect-reads.Learnt,
-) (field-at t) field.Post
-field-same-length-8 t c = (c .before .before .before .before .before .before .before .before .before .before .before .before .before .before .expr .kept .1 .1 .0)
-
-field-same-length-9 : (t : ℕ) → field-lts.Need-same-length-9 (
-  bump-reads.Asked,
-  bump-reads.Learnt,
-  eat-reads.Asked,
-  eat-reads.Learnt,
-  meta-end-reads.Asked,
-  meta-end-reads.Learnt,
-  ident-reads.Asked,
-  ident-reads.Learnt,
-  expr-below t,
-  expr.Post,
-  expect-reads.Asked,
-  expect-reads.Learnt,
-) (field-at t) field.Post
-field-same-length-9 t c = (c .before .before .before .before .before .before .before .before .before .before .before .before .before .before .expr .kept .1 .1 .1 .0)
-
-field-same-length-10 : (t : ℕ) → field-lts.Need-same-length-10 (
-  bump-reads.Asked,
-  bump-reads.Learnt,
-  eat-reads.Asked,
-  eat-reads.Learnt,
-  meta-end-reads.Asked,
-  meta-end-reads.Learnt,
-  ident-reads.Asked,
-  ident-reads.Learnt,
-  expr-below t,
-  expr.Post,
-  expect-reads.Asked,
-  expect-reads.Learnt,
-) (field-at t) field.Post
-field-same-length-10 t c = (c .before .before .before .before .before .before .before .before .before .before .before .before .before .before .expr .kept .1 .1 .1 .1 .0)
-
-field-returns-7 : (t : ℕ) → field-lts.Need-returns-7 (
-  bump-reads.Asked,
-  bump-reads.Learnt,
-  eat-reads.Asked,
-  eat-reads.Learnt,
-  meta-end-reads.Asked,
-  meta-end-reads.Learnt,
-  ident-reads.Asked,
-  ident-reads.Learnt,
-  expr-below t,
-  expr.Post,
-  expect-reads.Asked,
-  expect-reads.Learnt,
-) (field-at t) field.Post
-field-returns-7 t c = let c₁ = c .before in let c₂ = c₁ .before .before in let c₃ = c₂ .before .before .before in let c₄ = c₃ .before .before .before .before .before .before .before .before in let c₅ = c₄ .before .before .before .before .before in let c₆ = c₅ .before .before in let c₇ = c₆ .before .before in let c₈ = c₇ .before .before .before in let c₉ = c₈ .before .before in sym (pm.member-open _ _ _ _ (via asMoved (c₉ .bump .ensures _ _) (c₈ .opened .given .1)) (via asTest (c₇ .eat .ensures _ _ _ _) (c₆ .meta2 .given .1)) (c₅ .if1 .left) (via asBuilt (c₄ .expr .ensures) (c₃ .read .given .1)) (via asMoved (c₂ .expect .ensures _ _ _ _) (c₁ .closed2 .given .1)))
 
 form-group-requires : (t : ℕ) → form-lts.Need-group-requires (
   group-below t,
@@ -9821,7 +8878,7 @@ glo-typed-ident-requires : (t : ℕ) → glo-lts.Need-typed-ident-requires (
   rhs-below t,
   rhs.Post,
 ) (glo-at t) glo.Post
-glo-typed-ident-requires t c κs = tt
+glo-typed-ident-requires t c κs = search needs
 
 glo-enum-known-named : (t : ℕ) → glo-lts.Need-enum-known-named (
   current-range-reads.Asked,
@@ -10646,6 +9703,438 @@ group-returns-6 : (t : ℕ) → group-lts.Need-returns-6 (
   expect-reads.Learnt,
 ) (group-at t) group.Post
 group-returns-6 t c = let c₁ = c .before in let c₂ = c₁ .before .before in let c₃ = c₂ .before .before in let c₄ = c₃ .before .before in let c₅ = c₄ .before .before .before .before .before .before .before .before in let c₆ = c₅ .before .before .before .before .before in let c₇ = c₆ .before .before in let c₈ = c₇ .before .before in sym (ao.group-open _ _ _ _ _ (via asMoved (c₈ .bump .ensures _ _) (c₇ .opened .given .1)) (c₆ .if1 .left) (via asBuilt (c₅ .expr .ensures) (c₄ .read .given .1)) (c₃ .if2 .left) (via asMoved (c₂ .expect .ensures _ _ _ _) (c₁ .closed2 .given .1)))
+
+hand-start-range-requires : (t : ℕ) → hand-lts.Need-start-range-requires (
+  start-range-reads.Asked,
+  start-range-reads.Learnt,
+  expect-reads.Asked,
+  expect-reads.Learnt,
+  ident-reads.Asked,
+  ident-reads.Learnt,
+  params-reads.Asked,
+  params-reads.Learnt,
+  block-below t,
+  block.Post,
+  handler-record-reads.Asked,
+  handler-record-reads.Learnt,
+) (hand-at t) hand.Post
+hand-start-range-requires t c κs = tt
+
+hand-expect-requires : (t : ℕ) → hand-lts.Need-expect-requires (
+  start-range-reads.Asked,
+  start-range-reads.Learnt,
+  expect-reads.Asked,
+  expect-reads.Learnt,
+  ident-reads.Asked,
+  ident-reads.Learnt,
+  params-reads.Asked,
+  params-reads.Learnt,
+  block-below t,
+  block.Post,
+  handler-record-reads.Asked,
+  handler-record-reads.Learnt,
+) (hand-at t) hand.Post
+hand-expect-requires t c κs = tt
+
+hand-enum-known-opened : (t : ℕ) → hand-lts.Need-enum-known-opened (
+  start-range-reads.Asked,
+  start-range-reads.Learnt,
+  expect-reads.Asked,
+  expect-reads.Learnt,
+  ident-reads.Asked,
+  ident-reads.Learnt,
+  params-reads.Asked,
+  params-reads.Learnt,
+  block-below t,
+  block.Post,
+  handler-record-reads.Asked,
+  handler-record-reads.Learnt,
+) (hand-at t) hand.Post
+hand-enum-known-opened t c = c .match .keys1
+
+hand-enum-known-opened-2 : (t : ℕ) → hand-lts.Need-enum-known-opened-2 (
+  start-range-reads.Asked,
+  start-range-reads.Learnt,
+  expect-reads.Asked,
+  expect-reads.Learnt,
+  ident-reads.Asked,
+  ident-reads.Learnt,
+  params-reads.Asked,
+  params-reads.Learnt,
+  block-below t,
+  block.Post,
+  handler-record-reads.Asked,
+  handler-record-reads.Learnt,
+) (hand-at t) hand.Post
+hand-enum-known-opened-2 t c = c .match .keys2
+
+hand-returns : (t : ℕ) → hand-lts.Need-returns (
+  start-range-reads.Asked,
+  start-range-reads.Learnt,
+  expect-reads.Asked,
+  expect-reads.Learnt,
+  ident-reads.Asked,
+  ident-reads.Learnt,
+  params-reads.Asked,
+  params-reads.Learnt,
+  block-below t,
+  block.Post,
+  handler-record-reads.Asked,
+  handler-record-reads.Learnt,
+) (hand-at t) hand.Post
+hand-returns t c = let c₁ = c .before in let c₂ = c₁ .before .before in let c₃ = c₂ .before .before in sym (pc.handler-open _ _ _ (c₃ .start-range .ensures) (via asMoved (c₂ .expect .ensures _ _ _ _) (c₁ .opened2 .given .1)))
+
+hand-ident-requires : (t : ℕ) → hand-lts.Need-ident-requires (
+  start-range-reads.Asked,
+  start-range-reads.Learnt,
+  expect-reads.Asked,
+  expect-reads.Learnt,
+  ident-reads.Asked,
+  ident-reads.Learnt,
+  params-reads.Asked,
+  params-reads.Learnt,
+  block-below t,
+  block.Post,
+  handler-record-reads.Asked,
+  handler-record-reads.Learnt,
+) (hand-at t) hand.Post
+hand-ident-requires t c κs = tt
+
+hand-enum-known-named : (t : ℕ) → hand-lts.Need-enum-known-named (
+  start-range-reads.Asked,
+  start-range-reads.Learnt,
+  expect-reads.Asked,
+  expect-reads.Learnt,
+  ident-reads.Asked,
+  ident-reads.Learnt,
+  params-reads.Asked,
+  params-reads.Learnt,
+  block-below t,
+  block.Post,
+  handler-record-reads.Asked,
+  handler-record-reads.Learnt,
+) (hand-at t) hand.Post
+hand-enum-known-named t c = c .match2 .keys1
+
+hand-enum-known-named-2 : (t : ℕ) → hand-lts.Need-enum-known-named-2 (
+  start-range-reads.Asked,
+  start-range-reads.Learnt,
+  expect-reads.Asked,
+  expect-reads.Learnt,
+  ident-reads.Asked,
+  ident-reads.Learnt,
+  params-reads.Asked,
+  params-reads.Learnt,
+  block-below t,
+  block.Post,
+  handler-record-reads.Asked,
+  handler-record-reads.Learnt,
+) (hand-at t) hand.Post
+hand-enum-known-named-2 t c = c .match2 .keys2
+
+hand-same-length : (t : ℕ) → hand-lts.Need-same-length (
+  start-range-reads.Asked,
+  start-range-reads.Learnt,
+  expect-reads.Asked,
+  expect-reads.Learnt,
+  ident-reads.Asked,
+  ident-reads.Learnt,
+  params-reads.Asked,
+  params-reads.Learnt,
+  block-below t,
+  block.Post,
+  handler-record-reads.Asked,
+  handler-record-reads.Learnt,
+) (hand-at t) hand.Post
+hand-same-length t c = (c .before .before .before .before .before .ident .kept .1 .0)
+
+hand-returns-2 : (t : ℕ) → hand-lts.Need-returns-2 (
+  start-range-reads.Asked,
+  start-range-reads.Learnt,
+  expect-reads.Asked,
+  expect-reads.Learnt,
+  ident-reads.Asked,
+  ident-reads.Learnt,
+  params-reads.Asked,
+  params-reads.Learnt,
+  block-below t,
+  block.Post,
+  handler-record-reads.Asked,
+  handler-record-reads.Learnt,
+) (hand-at t) hand.Post
+hand-returns-2 t c = let c₁ = c .before in let c₂ = c₁ .before .before .before .before in let c₃ = c₂ .before .before .before .before in let c₄ = c₃ .before .before in let c₅ = c₄ .before .before in sym (pc.handler-bare _ _ _ (c₅ .start-range .ensures) (via asMoved (c₄ .expect .ensures _ _ _ _) (c₃ .opened .given .1)) (via asBuilt (c₂ .ident .ensures _ _ _) (c₁ .named2 .given .1)))
+
+hand-params-requires : (t : ℕ) → hand-lts.Need-params-requires (
+  start-range-reads.Asked,
+  start-range-reads.Learnt,
+  expect-reads.Asked,
+  expect-reads.Learnt,
+  ident-reads.Asked,
+  ident-reads.Learnt,
+  params-reads.Asked,
+  params-reads.Learnt,
+  block-below t,
+  block.Post,
+  handler-record-reads.Asked,
+  handler-record-reads.Learnt,
+) (hand-at t) hand.Post
+hand-params-requires t c κs = tt
+
+hand-enum-known-listed : (t : ℕ) → hand-lts.Need-enum-known-listed (
+  start-range-reads.Asked,
+  start-range-reads.Learnt,
+  expect-reads.Asked,
+  expect-reads.Learnt,
+  ident-reads.Asked,
+  ident-reads.Learnt,
+  params-reads.Asked,
+  params-reads.Learnt,
+  block-below t,
+  block.Post,
+  handler-record-reads.Asked,
+  handler-record-reads.Learnt,
+) (hand-at t) hand.Post
+hand-enum-known-listed t c = c .match3 .keys1
+
+hand-enum-known-listed-2 : (t : ℕ) → hand-lts.Need-enum-known-listed-2 (
+  start-range-reads.Asked,
+  start-range-reads.Learnt,
+  expect-reads.Asked,
+  expect-reads.Learnt,
+  ident-reads.Asked,
+  ident-reads.Learnt,
+  params-reads.Asked,
+  params-reads.Learnt,
+  block-below t,
+  block.Post,
+  handler-record-reads.Asked,
+  handler-record-reads.Learnt,
+) (hand-at t) hand.Post
+hand-enum-known-listed-2 t c = c .match3 .keys2
+
+hand-same-length-2 : (t : ℕ) → hand-lts.Need-same-length-2 (
+  start-range-reads.Asked,
+  start-range-reads.Learnt,
+  expect-reads.Asked,
+  expect-reads.Learnt,
+  ident-reads.Asked,
+  ident-reads.Learnt,
+  params-reads.Asked,
+  params-reads.Learnt,
+  block-below t,
+  block.Post,
+  handler-record-reads.Asked,
+  handler-record-reads.Learnt,
+) (hand-at t) hand.Post
+hand-same-length-2 t c = let c₁ = c .before .before .before .before .before in let c₂ = c₁ .before .before .before .before .before .before .before .before in (c₁ .params .kept .1 .1 .0) ∙ (c₂ .ident .kept .1 .0)
+
+hand-returns-3 : (t : ℕ) → hand-lts.Need-returns-3 (
+  start-range-reads.Asked,
+  start-range-reads.Learnt,
+  expect-reads.Asked,
+  expect-reads.Learnt,
+  ident-reads.Asked,
+  ident-reads.Learnt,
+  params-reads.Asked,
+  params-reads.Learnt,
+  block-below t,
+  block.Post,
+  handler-record-reads.Asked,
+  handler-record-reads.Learnt,
+) (hand-at t) hand.Post
+hand-returns-3 t c = let c₁ = c .before in let c₂ = c₁ .before .before .before .before in let c₃ = c₂ .before .before .before .before in let c₄ = c₃ .before .before .before .before in let c₅ = c₄ .before .before .before .before in let c₆ = c₅ .before .before in let c₇ = c₆ .before .before in sym (pc.handler-failed _ _ _ (c₇ .start-range .ensures) (via asMoved (c₆ .expect .ensures _ _ _ _) (c₅ .opened .given .1)) (via asBuilt (c₄ .ident .ensures _ _ _) (c₃ .named .given .1)) (via asListed (c₂ .params .ensures _ _) (c₁ .listed2 .given .1)))
+
+hand-block-requires : (t : ℕ) → hand-lts.Need-block-requires (
+  start-range-reads.Asked,
+  start-range-reads.Learnt,
+  expect-reads.Asked,
+  expect-reads.Learnt,
+  ident-reads.Asked,
+  ident-reads.Learnt,
+  params-reads.Asked,
+  params-reads.Learnt,
+  block-below t,
+  block.Post,
+  handler-record-reads.Asked,
+  handler-record-reads.Learnt,
+) (hand-at t) hand.Post
+hand-block-requires t c κs = (omega (arith, c .before .before .before .before .before .before .before .before .before .before .before .before .before .before .before .before .before .before .before .before .before .before .before .before .before .before .before .before .before .before .before .before .pre .0), tt)
+
+hand-enum-known-read : (t : ℕ) → hand-lts.Need-enum-known-read (
+  start-range-reads.Asked,
+  start-range-reads.Learnt,
+  expect-reads.Asked,
+  expect-reads.Learnt,
+  ident-reads.Asked,
+  ident-reads.Learnt,
+  params-reads.Asked,
+  params-reads.Learnt,
+  block-below t,
+  block.Post,
+  handler-record-reads.Asked,
+  handler-record-reads.Learnt,
+) (hand-at t) hand.Post
+hand-enum-known-read t c = c .match4 .keys1
+
+hand-handler-record-requires : (t : ℕ) → hand-lts.Need-handler-record-requires (
+  start-range-reads.Asked,
+  start-range-reads.Learnt,
+  expect-reads.Asked,
+  expect-reads.Learnt,
+  ident-reads.Asked,
+  ident-reads.Learnt,
+  params-reads.Asked,
+  params-reads.Learnt,
+  block-below t,
+  block.Post,
+  handler-record-reads.Asked,
+  handler-record-reads.Learnt,
+) (hand-at t) hand.Post
+hand-handler-record-requires t c κs = tt
+
+hand-enum-known-read-2 : (t : ℕ) → hand-lts.Need-enum-known-read-2 (
+  start-range-reads.Asked,
+  start-range-reads.Learnt,
+  expect-reads.Asked,
+  expect-reads.Learnt,
+  ident-reads.Asked,
+  ident-reads.Learnt,
+  params-reads.Asked,
+  params-reads.Learnt,
+  block-below t,
+  block.Post,
+  handler-record-reads.Asked,
+  handler-record-reads.Learnt,
+) (hand-at t) hand.Post
+hand-enum-known-read-2 t c = c .match4 .keys2
+
+hand-same-length-3 : (t : ℕ) → hand-lts.Need-same-length-3 (
+  start-range-reads.Asked,
+  start-range-reads.Learnt,
+  expect-reads.Asked,
+  expect-reads.Learnt,
+  ident-reads.Asked,
+  ident-reads.Learnt,
+  params-reads.Asked,
+  params-reads.Learnt,
+  block-below t,
+  block.Post,
+  handler-record-reads.Asked,
+  handler-record-reads.Learnt,
+) (hand-at t) hand.Post
+hand-same-length-3 t c = let c₁ = c .before .before in let c₂ = c₁ .before .before .before .before .before .before .before .before .before .before .before in let c₃ = c₂ .before .before .before .before .before .before .before .before .before .before in let c₄ = c₃ .before .before .before .before .before .before .before .before in (c₁ .handler-record .kept .0) ∙ (c₂ .block .kept .1 .1 .0) ∙ (c₃ .params .kept .1 .1 .0) ∙ (c₄ .ident .kept .1 .0)
+
+hand-same-length-4 : (t : ℕ) → hand-lts.Need-same-length-4 (
+  start-range-reads.Asked,
+  start-range-reads.Learnt,
+  expect-reads.Asked,
+  expect-reads.Learnt,
+  ident-reads.Asked,
+  ident-reads.Learnt,
+  params-reads.Asked,
+  params-reads.Learnt,
+  block-below t,
+  block.Post,
+  handler-record-reads.Asked,
+  handler-record-reads.Learnt,
+) (hand-at t) hand.Post
+hand-same-length-4 t c = (c .before .before .before .before .before .before .before .before .before .before .before .before .before .block .kept .1 .1 .1 .0)
+
+hand-same-length-5 : (t : ℕ) → hand-lts.Need-same-length-5 (
+  start-range-reads.Asked,
+  start-range-reads.Learnt,
+  expect-reads.Asked,
+  expect-reads.Learnt,
+  ident-reads.Asked,
+  ident-reads.Learnt,
+  params-reads.Asked,
+  params-reads.Learnt,
+  block-below t,
+  block.Post,
+  handler-record-reads.Asked,
+  handler-record-reads.Learnt,
+) (hand-at t) hand.Post
+hand-same-length-5 t c = (c .before .before .before .before .before .before .before .before .before .before .before .before .before .block .kept .1 .1 .1 .1 .0)
+
+hand-returns-4 : (t : ℕ) → hand-lts.Need-returns-4 (
+  start-range-reads.Asked,
+  start-range-reads.Learnt,
+  expect-reads.Asked,
+  expect-reads.Learnt,
+  ident-reads.Asked,
+  ident-reads.Learnt,
+  params-reads.Asked,
+  params-reads.Learnt,
+  block-below t,
+  block.Post,
+  handler-record-reads.Asked,
+  handler-record-reads.Learnt,
+) (hand-at t) hand.Post
+hand-returns-4 t c = let c₁ = c .before .before in let c₂ = c₁ .before .before .before in let c₃ = c₂ .before .before .before .before .before .before .before .before in let c₄ = c₃ .before .before .before .before .before .before in let c₅ = c₄ .before .before .before .before in let c₆ = c₅ .before .before .before .before in let c₇ = c₆ .before .before .before .before in let c₈ = c₇ .before .before .before .before in let c₉ = c₈ .before .before in let c₁₀ = c₉ .before .before in c₁ .handler-record .ensures _ _ _ ∙ sym (pc.handler-on _ _ _ (c₁₀ .start-range .ensures) (via asMoved (c₉ .expect .ensures _ _ _ _) (c₈ .opened .given .1)) (via asBuilt (c₇ .ident .ensures _ _ _) (c₆ .named .given .1)) (via asListed (c₅ .params .ensures _ _) (c₄ .listed .given .1)) (via asBuilt (c₃ .block .ensures) (c₂ .read .given .1)))
+
+hand-same-length-6 : (t : ℕ) → hand-lts.Need-same-length-6 (
+  start-range-reads.Asked,
+  start-range-reads.Learnt,
+  expect-reads.Asked,
+  expect-reads.Learnt,
+  ident-reads.Asked,
+  ident-reads.Learnt,
+  params-reads.Asked,
+  params-reads.Learnt,
+  block-below t,
+  block.Post,
+  handler-record-reads.Asked,
+  handler-record-reads.Learnt,
+) (hand-at t) hand.Post
+hand-same-length-6 t c = let c₁ = c .before .before .before .before .before .before .before .before .before in let c₂ = c₁ .before .before .before .before .before .before .before .before .before .before in let c₃ = c₂ .before .before .before .before .before .before .before .before in (c₁ .block .kept .1 .1 .0) ∙ (c₂ .params .kept .1 .1 .0) ∙ (c₃ .ident .kept .1 .0)
+
+hand-same-length-7 : (t : ℕ) → hand-lts.Need-same-length-7 (
+  start-range-reads.Asked,
+  start-range-reads.Learnt,
+  expect-reads.Asked,
+  expect-reads.Learnt,
+  ident-reads.Asked,
+  ident-reads.Learnt,
+  params-reads.Asked,
+  params-reads.Learnt,
+  block-below t,
+  block.Post,
+  handler-record-reads.Asked,
+  handler-record-reads.Learnt,
+) (hand-at t) hand.Post
+hand-same-length-7 t c = (c .before .before .before .before .before .before .before .before .before .block .kept .1 .1 .1 .0)
+
+hand-same-length-8 : (t : ℕ) → hand-lts.Need-same-length-8 (
+  start-range-reads.Asked,
+  start-range-reads.Learnt,
+  expect-reads.Asked,
+  expect-reads.Learnt,
+  ident-reads.Asked,
+  ident-reads.Learnt,
+  params-reads.Asked,
+  params-reads.Learnt,
+  block-below t,
+  block.Post,
+  handler-record-reads.Asked,
+  handler-record-reads.Learnt,
+) (hand-at t) hand.Post
+hand-same-length-8 t c = (c .before .before .before .before .before .before .before .before .before .block .kept .1 .1 .1 .1 .0)
+
+hand-returns-5 : (t : ℕ) → hand-lts.Need-returns-5 (
+  start-range-reads.Asked,
+  start-range-reads.Learnt,
+  expect-reads.Asked,
+  expect-reads.Learnt,
+  ident-reads.Asked,
+  ident-reads.Learnt,
+  params-reads.Asked,
+  params-reads.Learnt,
+  block-below t,
+  block.Post,
+  handler-record-reads.Asked,
+  handler-record-reads.Learnt,
+) (hand-at t) hand.Post
+hand-returns-5 t c = let c₁ = c .before in let c₂ = c₁ .before .before .before .before .before .before .before .before in let c₃ = c₂ .before .before .before .before .before .before in let c₄ = c₃ .before .before .before .before in let c₅ = c₄ .before .before .before .before in let c₆ = c₅ .before .before .before .before in let c₇ = c₆ .before .before .before .before in let c₈ = c₇ .before .before in let c₉ = c₈ .before .before in sym (pc.handler-lost _ _ _ (c₉ .start-range .ensures) (via asMoved (c₈ .expect .ensures _ _ _ _) (c₇ .opened .given .1)) (via asBuilt (c₆ .ident .ensures _ _ _) (c₅ .named .given .1)) (via asListed (c₄ .params .ensures _ _) (c₃ .listed .given .1)) (via asBuilt (c₂ .block .ensures) (c₁ .read2 .given .1)))
 
 head-expr-requires : (t : ℕ) → head-lts.Need-expr-requires (
   expr-below t,
@@ -13823,6 +13312,618 @@ many-returns-7 : (t : ℕ) → many-lts.Need-returns-7 (
 ) (many-at t) many.Post
 many-returns-7 t c = let c₁ = c .before in let c₂ = c₁ .before .before in let c₃ = c₂ .before .before .before in let c₄ = c₃ .before .before .before .before .before .before .before .before in let c₅ = c₄ .before .before .before .before .before .before in let c₆ = c₅ .before .before in let c₇ = c₆ .before .before .before in let c₈ = c₇ .before .before .before .before .before .before .before .before in let c₉ = c₈ .before .before .before .before .before .before in let c₁₀ = c₉ .before .before in sym (st.multi-full _ _ _ _ _ (sym (c₉ .to .given .1) ∙ c₁₀ .to-assign-left .ensures) (via asRowed (c₈ .lhs .ensures) (c₇ .listed .given .1)) (via asMoved (c₆ .expect .ensures _ _ _ _) (c₅ .set .given .1)) (via asBuilt (c₄ .expr .ensures) (c₃ .read .given .1)) (via asTest (c₂ .check .ensures _ _ _ _ _) (c₁ .several3 .given .1)))
 
+member-bump-requires : (t : ℕ) → member-lts.Need-bump-requires (
+  bump-reads.Asked,
+  bump-reads.Learnt,
+  eat-reads.Asked,
+  eat-reads.Learnt,
+  meta-member-reads.Asked,
+  meta-member-reads.Learnt,
+  name-member-reads.Asked,
+  name-member-reads.Learnt,
+  expr-below t,
+  expr.Post,
+  expect-reads.Asked,
+  expect-reads.Learnt,
+  member-record-reads.Asked,
+  member-record-reads.Learnt,
+) (member-at t) member.Post
+member-bump-requires t c κs = tt
+
+member-enum-known-opened : (t : ℕ) → member-lts.Need-enum-known-opened (
+  bump-reads.Asked,
+  bump-reads.Learnt,
+  eat-reads.Asked,
+  eat-reads.Learnt,
+  meta-member-reads.Asked,
+  meta-member-reads.Learnt,
+  name-member-reads.Asked,
+  name-member-reads.Learnt,
+  expr-below t,
+  expr.Post,
+  expect-reads.Asked,
+  expect-reads.Learnt,
+  member-record-reads.Asked,
+  member-record-reads.Learnt,
+) (member-at t) member.Post
+member-enum-known-opened t c = c .match .keys1
+
+member-enum-known-opened-2 : (t : ℕ) → member-lts.Need-enum-known-opened-2 (
+  bump-reads.Asked,
+  bump-reads.Learnt,
+  eat-reads.Asked,
+  eat-reads.Learnt,
+  meta-member-reads.Asked,
+  meta-member-reads.Learnt,
+  name-member-reads.Asked,
+  name-member-reads.Learnt,
+  expr-below t,
+  expr.Post,
+  expect-reads.Asked,
+  expect-reads.Learnt,
+  member-record-reads.Asked,
+  member-record-reads.Learnt,
+) (member-at t) member.Post
+member-enum-known-opened-2 t c = c .match .keys2
+
+member-returns : (t : ℕ) → member-lts.Need-returns (
+  bump-reads.Asked,
+  bump-reads.Learnt,
+  eat-reads.Asked,
+  eat-reads.Learnt,
+  meta-member-reads.Asked,
+  meta-member-reads.Learnt,
+  name-member-reads.Asked,
+  name-member-reads.Learnt,
+  expr-below t,
+  expr.Post,
+  expect-reads.Asked,
+  expect-reads.Learnt,
+  member-record-reads.Asked,
+  member-record-reads.Learnt,
+) (member-at t) member.Post
+member-returns t c = sym (pm.member-spent _ _ _ _ _ _ _ (via asMoved (c .before .before .before .bump .ensures _ _) (c .before .opened2 .given .1)))
+
+member-eat-requires : (t : ℕ) → member-lts.Need-eat-requires (
+  bump-reads.Asked,
+  bump-reads.Learnt,
+  eat-reads.Asked,
+  eat-reads.Learnt,
+  meta-member-reads.Asked,
+  meta-member-reads.Learnt,
+  name-member-reads.Asked,
+  name-member-reads.Learnt,
+  expr-below t,
+  expr.Post,
+  expect-reads.Asked,
+  expect-reads.Learnt,
+  member-record-reads.Asked,
+  member-record-reads.Learnt,
+) (member-at t) member.Post
+member-eat-requires t c κs = tt
+
+member-enum-known-meta : (t : ℕ) → member-lts.Need-enum-known-meta (
+  bump-reads.Asked,
+  bump-reads.Learnt,
+  eat-reads.Asked,
+  eat-reads.Learnt,
+  meta-member-reads.Asked,
+  meta-member-reads.Learnt,
+  name-member-reads.Asked,
+  name-member-reads.Learnt,
+  expr-below t,
+  expr.Post,
+  expect-reads.Asked,
+  expect-reads.Learnt,
+  member-record-reads.Asked,
+  member-record-reads.Learnt,
+) (member-at t) member.Post
+member-enum-known-meta t c = c .match2 .keys1
+
+member-meta-member-requires : (t : ℕ) → member-lts.Need-meta-member-requires (
+  bump-reads.Asked,
+  bump-reads.Learnt,
+  eat-reads.Asked,
+  eat-reads.Learnt,
+  meta-member-reads.Asked,
+  meta-member-reads.Learnt,
+  name-member-reads.Asked,
+  name-member-reads.Learnt,
+  expr-below t,
+  expr.Post,
+  expect-reads.Asked,
+  expect-reads.Learnt,
+  member-record-reads.Asked,
+  member-record-reads.Learnt,
+) (member-at t) member.Post
+member-meta-member-requires t c κs = tt
+
+member-same-length : (t : ℕ) → member-lts.Need-same-length (
+  bump-reads.Asked,
+  bump-reads.Learnt,
+  eat-reads.Asked,
+  eat-reads.Learnt,
+  meta-member-reads.Asked,
+  meta-member-reads.Learnt,
+  name-member-reads.Asked,
+  name-member-reads.Learnt,
+  expr-below t,
+  expr.Post,
+  expect-reads.Asked,
+  expect-reads.Learnt,
+  member-record-reads.Asked,
+  member-record-reads.Learnt,
+) (member-at t) member.Post
+member-same-length t c = (c .before .before .meta-member .kept .1 .0)
+
+member-returns-2 : (t : ℕ) → member-lts.Need-returns-2 (
+  bump-reads.Asked,
+  bump-reads.Learnt,
+  eat-reads.Asked,
+  eat-reads.Learnt,
+  meta-member-reads.Asked,
+  meta-member-reads.Learnt,
+  name-member-reads.Asked,
+  name-member-reads.Learnt,
+  expr-below t,
+  expr.Post,
+  expect-reads.Asked,
+  expect-reads.Learnt,
+  member-record-reads.Asked,
+  member-record-reads.Learnt,
+) (member-at t) member.Post
+member-returns-2 t c = let c₁ = c .before .before in let c₂ = c₁ .before .before .before .before in let c₃ = c₂ .before .before in let c₄ = c₃ .before .before .before in let c₅ = c₄ .before .before in c₁ .meta-member .ensures _ _ _ ∙ sym (pm.member-meta _ _ _ _ _ _ _ (via asMoved (c₅ .bump .ensures _ _) (c₄ .opened .given .1)) (via asTest (c₃ .eat .ensures _ _ _ _) (c₂ .meta .given .1)))
+
+member-enum-known-meta-2 : (t : ℕ) → member-lts.Need-enum-known-meta-2 (
+  bump-reads.Asked,
+  bump-reads.Learnt,
+  eat-reads.Asked,
+  eat-reads.Learnt,
+  meta-member-reads.Asked,
+  meta-member-reads.Learnt,
+  name-member-reads.Asked,
+  name-member-reads.Learnt,
+  expr-below t,
+  expr.Post,
+  expect-reads.Asked,
+  expect-reads.Learnt,
+  member-record-reads.Asked,
+  member-record-reads.Learnt,
+) (member-at t) member.Post
+member-enum-known-meta-2 t c = c .match2 .keys2
+
+member-enum-known-meta-3 : (t : ℕ) → member-lts.Need-enum-known-meta-3 (
+  bump-reads.Asked,
+  bump-reads.Learnt,
+  eat-reads.Asked,
+  eat-reads.Learnt,
+  meta-member-reads.Asked,
+  meta-member-reads.Learnt,
+  name-member-reads.Asked,
+  name-member-reads.Learnt,
+  expr-below t,
+  expr.Post,
+  expect-reads.Asked,
+  expect-reads.Learnt,
+  member-record-reads.Asked,
+  member-record-reads.Learnt,
+) (member-at t) member.Post
+member-enum-known-meta-3 t c = c .match2 .keys3
+
+member-returns-3 : (t : ℕ) → member-lts.Need-returns-3 (
+  bump-reads.Asked,
+  bump-reads.Learnt,
+  eat-reads.Asked,
+  eat-reads.Learnt,
+  meta-member-reads.Asked,
+  meta-member-reads.Learnt,
+  name-member-reads.Asked,
+  name-member-reads.Learnt,
+  expr-below t,
+  expr.Post,
+  expect-reads.Asked,
+  expect-reads.Learnt,
+  member-record-reads.Asked,
+  member-record-reads.Learnt,
+) (member-at t) member.Post
+member-returns-3 t c = let c₁ = c .before in let c₂ = c₁ .before .before in let c₃ = c₂ .before .before .before in let c₄ = c₃ .before .before in sym (pm.member-full _ _ _ _ _ _ _ (via asMoved (c₄ .bump .ensures _ _) (c₃ .opened .given .1)) (via asTest (c₂ .eat .ensures _ _ _ _) (c₁ .meta3 .given .1)))
+
+member-name-member-requires : (t : ℕ) → member-lts.Need-name-member-requires (
+  bump-reads.Asked,
+  bump-reads.Learnt,
+  eat-reads.Asked,
+  eat-reads.Learnt,
+  meta-member-reads.Asked,
+  meta-member-reads.Learnt,
+  name-member-reads.Asked,
+  name-member-reads.Learnt,
+  expr-below t,
+  expr.Post,
+  expect-reads.Asked,
+  expect-reads.Learnt,
+  member-record-reads.Asked,
+  member-record-reads.Learnt,
+) (member-at t) member.Post
+member-name-member-requires t c κs = tt
+
+member-same-length-2 : (t : ℕ) → member-lts.Need-same-length-2 (
+  bump-reads.Asked,
+  bump-reads.Learnt,
+  eat-reads.Asked,
+  eat-reads.Learnt,
+  meta-member-reads.Asked,
+  meta-member-reads.Learnt,
+  name-member-reads.Asked,
+  name-member-reads.Learnt,
+  expr-below t,
+  expr.Post,
+  expect-reads.Asked,
+  expect-reads.Learnt,
+  member-record-reads.Asked,
+  member-record-reads.Learnt,
+) (member-at t) member.Post
+member-same-length-2 t c = (c .before .before .name-member .kept .1 .0)
+
+member-returns-4 : (t : ℕ) → member-lts.Need-returns-4 (
+  bump-reads.Asked,
+  bump-reads.Learnt,
+  eat-reads.Asked,
+  eat-reads.Learnt,
+  meta-member-reads.Asked,
+  meta-member-reads.Learnt,
+  name-member-reads.Asked,
+  name-member-reads.Learnt,
+  expr-below t,
+  expr.Post,
+  expect-reads.Asked,
+  expect-reads.Learnt,
+  member-record-reads.Asked,
+  member-record-reads.Learnt,
+) (member-at t) member.Post
+member-returns-4 t c = let c₁ = c .before .before in let c₂ = c₁ .before .before .before in let c₃ = c₂ .before .before in let c₄ = c₃ .before .before in let c₅ = c₄ .before .before .before in let c₆ = c₅ .before .before in c₁ .name-member .ensures _ _ _ ∙ sym (pm.member-name _ _ _ _ _ _ _ (via asMoved (c₆ .bump .ensures _ _) (c₅ .opened .given .1)) (via asTest (c₄ .eat .ensures _ _ _ _) (c₃ .meta2 .given .1)) (c₂ .if1 .taken))
+
+member-expr-requires : (t : ℕ) → member-lts.Need-expr-requires (
+  bump-reads.Asked,
+  bump-reads.Learnt,
+  eat-reads.Asked,
+  eat-reads.Learnt,
+  meta-member-reads.Asked,
+  meta-member-reads.Learnt,
+  name-member-reads.Asked,
+  name-member-reads.Learnt,
+  expr-below t,
+  expr.Post,
+  expect-reads.Asked,
+  expect-reads.Learnt,
+  member-record-reads.Asked,
+  member-record-reads.Learnt,
+) (member-at t) member.Post
+member-expr-requires t c κs = (omega (arith, c .before .before .before .before .before .before .before .before .before .before .before .before .before .before .before .before .before .before .before .before .pre .0), tt)
+
+member-enum-known-read : (t : ℕ) → member-lts.Need-enum-known-read (
+  bump-reads.Asked,
+  bump-reads.Learnt,
+  eat-reads.Asked,
+  eat-reads.Learnt,
+  meta-member-reads.Asked,
+  meta-member-reads.Learnt,
+  name-member-reads.Asked,
+  name-member-reads.Learnt,
+  expr-below t,
+  expr.Post,
+  expect-reads.Asked,
+  expect-reads.Learnt,
+  member-record-reads.Asked,
+  member-record-reads.Learnt,
+) (member-at t) member.Post
+member-enum-known-read t c = c .match3 .keys1
+
+member-enum-known-read-2 : (t : ℕ) → member-lts.Need-enum-known-read-2 (
+  bump-reads.Asked,
+  bump-reads.Learnt,
+  eat-reads.Asked,
+  eat-reads.Learnt,
+  meta-member-reads.Asked,
+  meta-member-reads.Learnt,
+  name-member-reads.Asked,
+  name-member-reads.Learnt,
+  expr-below t,
+  expr.Post,
+  expect-reads.Asked,
+  expect-reads.Learnt,
+  member-record-reads.Asked,
+  member-record-reads.Learnt,
+) (member-at t) member.Post
+member-enum-known-read-2 t c = c .match3 .keys2
+
+member-same-length-3 : (t : ℕ) → member-lts.Need-same-length-3 (
+  bump-reads.Asked,
+  bump-reads.Learnt,
+  eat-reads.Asked,
+  eat-reads.Learnt,
+  meta-member-reads.Asked,
+  meta-member-reads.Learnt,
+  name-member-reads.Asked,
+  name-member-reads.Learnt,
+  expr-below t,
+  expr.Post,
+  expect-reads.Asked,
+  expect-reads.Learnt,
+  member-record-reads.Asked,
+  member-record-reads.Learnt,
+) (member-at t) member.Post
+member-same-length-3 t c = (c .before .before .before .before .before .before .before .before .before .expr .kept .1 .1 .0)
+
+member-same-length-4 : (t : ℕ) → member-lts.Need-same-length-4 (
+  bump-reads.Asked,
+  bump-reads.Learnt,
+  eat-reads.Asked,
+  eat-reads.Learnt,
+  meta-member-reads.Asked,
+  meta-member-reads.Learnt,
+  name-member-reads.Asked,
+  name-member-reads.Learnt,
+  expr-below t,
+  expr.Post,
+  expect-reads.Asked,
+  expect-reads.Learnt,
+  member-record-reads.Asked,
+  member-record-reads.Learnt,
+) (member-at t) member.Post
+member-same-length-4 t c = (c .before .before .before .before .before .before .before .before .before .expr .kept .1 .1 .1 .0)
+
+member-same-length-5 : (t : ℕ) → member-lts.Need-same-length-5 (
+  bump-reads.Asked,
+  bump-reads.Learnt,
+  eat-reads.Asked,
+  eat-reads.Learnt,
+  meta-member-reads.Asked,
+  meta-member-reads.Learnt,
+  name-member-reads.Asked,
+  name-member-reads.Learnt,
+  expr-below t,
+  expr.Post,
+  expect-reads.Asked,
+  expect-reads.Learnt,
+  member-record-reads.Asked,
+  member-record-reads.Learnt,
+) (member-at t) member.Post
+member-same-length-5 t c = (c .before .before .before .before .before .before .before .before .before .expr .kept .1 .1 .1 .1 .0)
+
+member-returns-5 : (t : ℕ) → member-lts.Need-returns-5 (
+  bump-reads.Asked,
+  bump-reads.Learnt,
+  eat-reads.Asked,
+  eat-reads.Learnt,
+  meta-member-reads.Asked,
+  meta-member-reads.Learnt,
+  name-member-reads.Asked,
+  name-member-reads.Learnt,
+  expr-below t,
+  expr.Post,
+  expect-reads.Asked,
+  expect-reads.Learnt,
+  member-record-reads.Asked,
+  member-record-reads.Learnt,
+) (member-at t) member.Post
+member-returns-5 t c = let c₁ = c .before in let c₂ = c₁ .before .before .before .before .before .before .before .before in let c₃ = c₂ .before .before .before .before .before in let c₄ = c₃ .before .before in let c₅ = c₄ .before .before in let c₆ = c₅ .before .before .before in let c₇ = c₆ .before .before in sym (pm.member-failed _ _ _ _ _ _ _ (via asMoved (c₇ .bump .ensures _ _) (c₆ .opened .given .1)) (via asTest (c₅ .eat .ensures _ _ _ _) (c₄ .meta2 .given .1)) (c₃ .if1 .left) (via asBuilt (c₂ .expr .ensures) (c₁ .read2 .given .1)))
+
+member-expect-requires : (t : ℕ) → member-lts.Need-expect-requires (
+  bump-reads.Asked,
+  bump-reads.Learnt,
+  eat-reads.Asked,
+  eat-reads.Learnt,
+  meta-member-reads.Asked,
+  meta-member-reads.Learnt,
+  name-member-reads.Asked,
+  name-member-reads.Learnt,
+  expr-below t,
+  expr.Post,
+  expect-reads.Asked,
+  expect-reads.Learnt,
+  member-record-reads.Asked,
+  member-record-reads.Learnt,
+) (member-at t) member.Post
+member-expect-requires t c κs = tt
+
+member-enum-known-closed : (t : ℕ) → member-lts.Need-enum-known-closed (
+  bump-reads.Asked,
+  bump-reads.Learnt,
+  eat-reads.Asked,
+  eat-reads.Learnt,
+  meta-member-reads.Asked,
+  meta-member-reads.Learnt,
+  name-member-reads.Asked,
+  name-member-reads.Learnt,
+  expr-below t,
+  expr.Post,
+  expect-reads.Asked,
+  expect-reads.Learnt,
+  member-record-reads.Asked,
+  member-record-reads.Learnt,
+) (member-at t) member.Post
+member-enum-known-closed t c = c .match4 .keys1
+
+member-member-record-requires : (t : ℕ) → member-lts.Need-member-record-requires (
+  bump-reads.Asked,
+  bump-reads.Learnt,
+  eat-reads.Asked,
+  eat-reads.Learnt,
+  meta-member-reads.Asked,
+  meta-member-reads.Learnt,
+  name-member-reads.Asked,
+  name-member-reads.Learnt,
+  expr-below t,
+  expr.Post,
+  expect-reads.Asked,
+  expect-reads.Learnt,
+  member-record-reads.Asked,
+  member-record-reads.Learnt,
+) (member-at t) member.Post
+member-member-record-requires t c κs = tt
+
+member-enum-known-closed-2 : (t : ℕ) → member-lts.Need-enum-known-closed-2 (
+  bump-reads.Asked,
+  bump-reads.Learnt,
+  eat-reads.Asked,
+  eat-reads.Learnt,
+  meta-member-reads.Asked,
+  meta-member-reads.Learnt,
+  name-member-reads.Asked,
+  name-member-reads.Learnt,
+  expr-below t,
+  expr.Post,
+  expect-reads.Asked,
+  expect-reads.Learnt,
+  member-record-reads.Asked,
+  member-record-reads.Learnt,
+) (member-at t) member.Post
+member-enum-known-closed-2 t c = c .match4 .keys2
+
+member-same-length-6 : (t : ℕ) → member-lts.Need-same-length-6 (
+  bump-reads.Asked,
+  bump-reads.Learnt,
+  eat-reads.Asked,
+  eat-reads.Learnt,
+  meta-member-reads.Asked,
+  meta-member-reads.Learnt,
+  name-member-reads.Asked,
+  name-member-reads.Learnt,
+  expr-below t,
+  expr.Post,
+  expect-reads.Asked,
+  expect-reads.Learnt,
+  member-record-reads.Asked,
+  member-record-reads.Learnt,
+) (member-at t) member.Post
+member-same-length-6 t c = (c .before .before .member-record .kept .0) ∙ (c .before .before .before .before .before .before .before .before .before .before .before .before .before .before .before .before .before .before .expr .kept .1 .1 .0)
+
+member-same-length-7 : (t : ℕ) → member-lts.Need-same-length-7 (
+  bump-reads.Asked,
+  bump-reads.Learnt,
+  eat-reads.Asked,
+  eat-reads.Learnt,
+  meta-member-reads.Asked,
+  meta-member-reads.Learnt,
+  name-member-reads.Asked,
+  name-member-reads.Learnt,
+  expr-below t,
+  expr.Post,
+  expect-reads.Asked,
+  expect-reads.Learnt,
+  member-record-reads.Asked,
+  member-record-reads.Learnt,
+) (member-at t) member.Post
+member-same-length-7 t c = (c .before .before .before .before .before .before .before .before .before .before .before .before .before .before .before .before .before .before .expr .kept .1 .1 .1 .0)
+
+member-same-length-8 : (t : ℕ) → member-lts.Need-same-length-8 (
+  bump-reads.Asked,
+  bump-reads.Learnt,
+  eat-reads.Asked,
+  eat-reads.Learnt,
+  meta-member-reads.Asked,
+  meta-member-reads.Learnt,
+  name-member-reads.Asked,
+  name-member-reads.Learnt,
+  expr-below t,
+  expr.Post,
+  expect-reads.Asked,
+  expect-reads.Learnt,
+  member-record-reads.Asked,
+  member-record-reads.Learnt,
+) (member-at t) member.Post
+member-same-length-8 t c = (c .before .before .before .before .before .before .before .before .before .before .before .before .before .before .before .before .before .before .expr .kept .1 .1 .1 .1 .0)
+
+member-returns-6 : (t : ℕ) → member-lts.Need-returns-6 (
+  bump-reads.Asked,
+  bump-reads.Learnt,
+  eat-reads.Asked,
+  eat-reads.Learnt,
+  meta-member-reads.Asked,
+  meta-member-reads.Learnt,
+  name-member-reads.Asked,
+  name-member-reads.Learnt,
+  expr-below t,
+  expr.Post,
+  expect-reads.Asked,
+  expect-reads.Learnt,
+  member-record-reads.Asked,
+  member-record-reads.Learnt,
+) (member-at t) member.Post
+member-returns-6 t c = let c₁ = c .before .before in let c₂ = c₁ .before .before .before in let c₃ = c₂ .before .before in let c₄ = c₃ .before .before .before in let c₅ = c₄ .before .before .before .before .before .before .before .before in let c₆ = c₅ .before .before .before .before .before in let c₇ = c₆ .before .before in let c₈ = c₇ .before .before in let c₉ = c₈ .before .before .before in let c₁₀ = c₉ .before .before in c₁ .member-record .ensures _ _ _ ∙ sym (pm.member-on _ _ _ _ _ _ _ (via asMoved (c₁₀ .bump .ensures _ _) (c₉ .opened .given .1)) (via asTest (c₈ .eat .ensures _ _ _ _) (c₇ .meta2 .given .1)) (c₆ .if1 .left) (via asBuilt (c₅ .expr .ensures) (c₄ .read .given .1)) (via asMoved (c₃ .expect .ensures _ _ _ _) (c₂ .closed .given .1)))
+
+member-same-length-9 : (t : ℕ) → member-lts.Need-same-length-9 (
+  bump-reads.Asked,
+  bump-reads.Learnt,
+  eat-reads.Asked,
+  eat-reads.Learnt,
+  meta-member-reads.Asked,
+  meta-member-reads.Learnt,
+  name-member-reads.Asked,
+  name-member-reads.Learnt,
+  expr-below t,
+  expr.Post,
+  expect-reads.Asked,
+  expect-reads.Learnt,
+  member-record-reads.Asked,
+  member-record-reads.Learnt,
+) (member-at t) member.Post
+member-same-length-9 t c = (c .before .before .before .before .before .before .before .before .before .before .before .before .before .before .expr .kept .1 .1 .0)
+
+member-same-length-10 : (t : ℕ) → member-lts.Need-same-length-10 (
+  bump-reads.Asked,
+  bump-reads.Learnt,
+  eat-reads.Asked,
+  eat-reads.Learnt,
+  meta-member-reads.Asked,
+  meta-member-reads.Learnt,
+  name-member-reads.Asked,
+  name-member-reads.Learnt,
+  expr-below t,
+  expr.Post,
+  expect-reads.Asked,
+  expect-reads.Learnt,
+  member-record-reads.Asked,
+  member-record-reads.Learnt,
+) (member-at t) member.Post
+member-same-length-10 t c = (c .before .before .before .before .before .before .before .before .before .before .before .before .before .before .expr .kept .1 .1 .1 .0)
+
+member-same-length-11 : (t : ℕ) → member-lts.Need-same-length-11 (
+  bump-reads.Asked,
+  bump-reads.Learnt,
+  eat-reads.Asked,
+  eat-reads.Learnt,
+  meta-member-reads.Asked,
+  meta-member-reads.Learnt,
+  name-member-reads.Asked,
+  name-member-reads.Learnt,
+  expr-below t,
+  expr.Post,
+  expect-reads.Asked,
+  expect-reads.Learnt,
+  member-record-reads.Asked,
+  member-record-reads.Learnt,
+) (member-at t) member.Post
+member-same-length-11 t c = (c .before .before .before .before .before .before .before .before .before .before .before .before .before .before .expr .kept .1 .1 .1 .1 .0)
+
+member-returns-7 : (t : ℕ) → member-lts.Need-returns-7 (
+  bump-reads.Asked,
+  bump-reads.Learnt,
+  eat-reads.Asked,
+  eat-reads.Learnt,
+  meta-member-reads.Asked,
+  meta-member-reads.Learnt,
+  name-member-reads.Asked,
+  name-member-reads.Learnt,
+  expr-below t,
+  expr.Post,
+  expect-reads.Asked,
+  expect-reads.Learnt,
+  member-record-reads.Asked,
+  member-record-reads.Learnt,
+) (member-at t) member.Post
+member-returns-7 t c = let c₁ = c .before in let c₂ = c₁ .before .before in let c₃ = c₂ .before .before .before in let c₄ = c₃ .before .before .before .before .before .before .before .before in let c₅ = c₄ .before .before .before .before .before in let c₆ = c₅ .before .before in let c₇ = c₆ .before .before in let c₈ = c₇ .before .before .before in let c₉ = c₈ .before .before in sym (pm.member-open _ _ _ _ _ _ _ (via asMoved (c₉ .bump .ensures _ _) (c₈ .opened .given .1)) (via asTest (c₇ .eat .ensures _ _ _ _) (c₆ .meta2 .given .1)) (c₅ .if1 .left) (via asBuilt (c₄ .expr .ensures) (c₃ .read .given .1)) (via asMoved (c₂ .expect .ensures _ _ _ _) (c₁ .closed2 .given .1)))
+
 op-current-kind-requires : (t : ℕ) → op-lts.Need-current-kind-requires (
   current-kind-reads.Asked,
   current-kind-reads.Learnt,
@@ -14550,10 +14651,8 @@ path-question-requires : (t : ℕ) → path-lts.Need-question-requires (
   pick-reads.Learnt,
   no-member-reads.Asked,
   no-member-reads.Learnt,
-  field-below t,
-  field.Post,
-  member-record-reads.Asked,
-  member-record-reads.Learnt,
+  member-below t,
+  member.Post,
 ) (path-at t) path.Post
 path-question-requires t c κs = tt
 
@@ -14564,10 +14663,8 @@ path-enum-known-asked : (t : ℕ) → path-lts.Need-enum-known-asked (
   pick-reads.Learnt,
   no-member-reads.Asked,
   no-member-reads.Learnt,
-  field-below t,
-  field.Post,
-  member-record-reads.Asked,
-  member-record-reads.Learnt,
+  member-below t,
+  member.Post,
 ) (path-at t) path.Post
 path-enum-known-asked t c = c .match .keys1
 
@@ -14578,10 +14675,8 @@ path-enum-known-asked-2 : (t : ℕ) → path-lts.Need-enum-known-asked-2 (
   pick-reads.Learnt,
   no-member-reads.Asked,
   no-member-reads.Learnt,
-  field-below t,
-  field.Post,
-  member-record-reads.Asked,
-  member-record-reads.Learnt,
+  member-below t,
+  member.Post,
 ) (path-at t) path.Post
 path-enum-known-asked-2 t c = c .match .keys2
 
@@ -14592,10 +14687,8 @@ path-returns : (t : ℕ) → path-lts.Need-returns (
   pick-reads.Learnt,
   no-member-reads.Asked,
   no-member-reads.Learnt,
-  field-below t,
-  field.Post,
-  member-record-reads.Asked,
-  member-record-reads.Learnt,
+  member-below t,
+  member.Post,
 ) (path-at t) path.Post
 path-returns t c = sym (pm.access-failed _ _ _ _ _ (via asAsked (c .before .before .before .question .ensures _ _ _ _) (c .before .asked2 .given .1)))
 
@@ -14606,10 +14699,8 @@ path-slice-aggregate-pick : (t : ℕ) → path-lts.Need-slice-aggregate-pick (
   pick-reads.Learnt,
   no-member-reads.Asked,
   no-member-reads.Learnt,
-  field-below t,
-  field.Post,
-  member-record-reads.Asked,
-  member-record-reads.Learnt,
+  member-below t,
+  member.Post,
 ) (path-at t) path.Post
 path-slice-aggregate-pick t c = search needs
 
@@ -14620,10 +14711,8 @@ path-pick-requires : (t : ℕ) → path-lts.Need-pick-requires (
   pick-reads.Learnt,
   no-member-reads.Asked,
   no-member-reads.Learnt,
-  field-below t,
-  field.Post,
-  member-record-reads.Asked,
-  member-record-reads.Learnt,
+  member-below t,
+  member.Post,
 ) (path-at t) path.Post
 path-pick-requires t c κs = tt
 
@@ -14634,10 +14723,8 @@ path-enum-known-picked : (t : ℕ) → path-lts.Need-enum-known-picked (
   pick-reads.Learnt,
   no-member-reads.Asked,
   no-member-reads.Learnt,
-  field-below t,
-  field.Post,
-  member-record-reads.Asked,
-  member-record-reads.Learnt,
+  member-below t,
+  member.Post,
 ) (path-at t) path.Post
 path-enum-known-picked t c = c .match2 .keys1
 
@@ -14648,10 +14735,8 @@ path-enum-known-picked-2 : (t : ℕ) → path-lts.Need-enum-known-picked-2 (
   pick-reads.Learnt,
   no-member-reads.Asked,
   no-member-reads.Learnt,
-  field-below t,
-  field.Post,
-  member-record-reads.Asked,
-  member-record-reads.Learnt,
+  member-below t,
+  member.Post,
 ) (path-at t) path.Post
 path-enum-known-picked-2 t c = c .match2 .keys2
 
@@ -14662,10 +14747,8 @@ path-returns-2 : (t : ℕ) → path-lts.Need-returns-2 (
   pick-reads.Learnt,
   no-member-reads.Asked,
   no-member-reads.Learnt,
-  field-below t,
-  field.Post,
-  member-record-reads.Asked,
-  member-record-reads.Learnt,
+  member-below t,
+  member.Post,
 ) (path-at t) path.Post
 path-returns-2 t c = let c₁ = c .before in let c₂ = c₁ .before .before in let c₃ = c₂ .before .before .before .before in let c₄ = c₃ .before .before in sym (pm.access-full _ _ _ _ _ (via asAsked (c₄ .question .ensures _ _ _ _) (c₃ .asked .given .1)) (via asPicked (c₂ .pick .ensures _ _ _ _ _) (c₁ .picked2 .given .1)))
 
@@ -14676,10 +14759,8 @@ path-no-member-requires : (t : ℕ) → path-lts.Need-no-member-requires (
   pick-reads.Learnt,
   no-member-reads.Asked,
   no-member-reads.Learnt,
-  field-below t,
-  field.Post,
-  member-record-reads.Asked,
-  member-record-reads.Learnt,
+  member-below t,
+  member.Post,
 ) (path-at t) path.Post
 path-no-member-requires t c κs = tt
 
@@ -14690,68 +14771,22 @@ path-returns-3 : (t : ℕ) → path-lts.Need-returns-3 (
   pick-reads.Learnt,
   no-member-reads.Asked,
   no-member-reads.Learnt,
-  field-below t,
-  field.Post,
-  member-record-reads.Asked,
-  member-record-reads.Learnt,
+  member-below t,
+  member.Post,
 ) (path-at t) path.Post
 path-returns-3 t c = let c₁ = c .before in let c₂ = c₁ .before .before in let c₃ = c₂ .before .before in let c₄ = c₃ .before .before .before .before in let c₅ = c₄ .before .before in c .no-member .ensures _ _ _ ∙ sym (pm.access-none _ _ _ _ _ (via asAsked (c₅ .question .ensures _ _ _ _) (c₄ .asked .given .1)) (via asPicked (c₃ .pick .ensures _ _ _ _ _) (c₂ .picked .given .1)) (c₁ .if1 .taken))
 
-path-field-requires : (t : ℕ) → path-lts.Need-field-requires (
+path-member-requires : (t : ℕ) → path-lts.Need-member-requires (
   question-reads.Asked,
   question-reads.Learnt,
   pick-reads.Asked,
   pick-reads.Learnt,
   no-member-reads.Asked,
   no-member-reads.Learnt,
-  field-below t,
-  field.Post,
-  member-record-reads.Asked,
-  member-record-reads.Learnt,
+  member-below t,
+  member.Post,
 ) (path-at t) path.Post
-path-field-requires t c κs = (omega (arith, c .before .before .before .before .before .before .before .before .before .before .before .before .before .before .before .before .before .before .before .before .before .before .pre .0), tt)
-
-path-enum-known-read : (t : ℕ) → path-lts.Need-enum-known-read (
-  question-reads.Asked,
-  question-reads.Learnt,
-  pick-reads.Asked,
-  pick-reads.Learnt,
-  no-member-reads.Asked,
-  no-member-reads.Learnt,
-  field-below t,
-  field.Post,
-  member-record-reads.Asked,
-  member-record-reads.Learnt,
-) (path-at t) path.Post
-path-enum-known-read t c = c .match3 .keys1
-
-path-member-record-requires : (t : ℕ) → path-lts.Need-member-record-requires (
-  question-reads.Asked,
-  question-reads.Learnt,
-  pick-reads.Asked,
-  pick-reads.Learnt,
-  no-member-reads.Asked,
-  no-member-reads.Learnt,
-  field-below t,
-  field.Post,
-  member-record-reads.Asked,
-  member-record-reads.Learnt,
-) (path-at t) path.Post
-path-member-record-requires t c κs = tt
-
-path-enum-known-read-2 : (t : ℕ) → path-lts.Need-enum-known-read-2 (
-  question-reads.Asked,
-  question-reads.Learnt,
-  pick-reads.Asked,
-  pick-reads.Learnt,
-  no-member-reads.Asked,
-  no-member-reads.Learnt,
-  field-below t,
-  field.Post,
-  member-record-reads.Asked,
-  member-record-reads.Learnt,
-) (path-at t) path.Post
-path-enum-known-read-2 t c = c .match3 .keys2
+path-member-requires t c κs = (omega (arith, c .before .before .before .before .before .before .before .before .before .before .before .before .before .before .before .before .before .before .before .before .before .before .pre .0), tt)
 
 path-same-length : (t : ℕ) → path-lts.Need-same-length (
   question-reads.Asked,
@@ -14760,12 +14795,10 @@ path-same-length : (t : ℕ) → path-lts.Need-same-length (
   pick-reads.Learnt,
   no-member-reads.Asked,
   no-member-reads.Learnt,
-  field-below t,
-  field.Post,
-  member-record-reads.Asked,
-  member-record-reads.Learnt,
+  member-below t,
+  member.Post,
 ) (path-at t) path.Post
-path-same-length t c = (c .before .before .member-record .kept .0) ∙ (c .before .before .before .before .before .before .before .before .before .before .before .before .before .field .kept .1 .1 .0)
+path-same-length t c = (c .before .before .before .before .before .before .member .kept .1 .1 .0)
 
 path-same-length-2 : (t : ℕ) → path-lts.Need-same-length-2 (
   question-reads.Asked,
@@ -14774,12 +14807,10 @@ path-same-length-2 : (t : ℕ) → path-lts.Need-same-length-2 (
   pick-reads.Learnt,
   no-member-reads.Asked,
   no-member-reads.Learnt,
-  field-below t,
-  field.Post,
-  member-record-reads.Asked,
-  member-record-reads.Learnt,
+  member-below t,
+  member.Post,
 ) (path-at t) path.Post
-path-same-length-2 t c = (c .before .before .before .before .before .before .before .before .before .before .before .before .before .field .kept .1 .1 .1 .0)
+path-same-length-2 t c = (c .before .before .before .before .before .before .member .kept .1 .1 .1 .0)
 
 path-same-length-3 : (t : ℕ) → path-lts.Need-same-length-3 (
   question-reads.Asked,
@@ -14788,12 +14819,10 @@ path-same-length-3 : (t : ℕ) → path-lts.Need-same-length-3 (
   pick-reads.Learnt,
   no-member-reads.Asked,
   no-member-reads.Learnt,
-  field-below t,
-  field.Post,
-  member-record-reads.Asked,
-  member-record-reads.Learnt,
+  member-below t,
+  member.Post,
 ) (path-at t) path.Post
-path-same-length-3 t c = (c .before .before .before .before .before .before .before .before .before .before .before .before .before .field .kept .1 .1 .1 .1 .0)
+path-same-length-3 t c = (c .before .before .before .before .before .before .member .kept .1 .1 .1 .1 .0)
 
 path-returns-4 : (t : ℕ) → path-lts.Need-returns-4 (
   question-reads.Asked,
@@ -14802,68 +14831,10 @@ path-returns-4 : (t : ℕ) → path-lts.Need-returns-4 (
   pick-reads.Learnt,
   no-member-reads.Asked,
   no-member-reads.Learnt,
-  field-below t,
-  field.Post,
-  member-record-reads.Asked,
-  member-record-reads.Learnt,
+  member-below t,
+  member.Post,
 ) (path-at t) path.Post
-path-returns-4 t c = let c₁ = c .before .before in let c₂ = c₁ .before .before .before in let c₃ = c₂ .before .before .before .before .before .before .before .before in let c₄ = c₃ .before .before .before .before .before in let c₅ = c₄ .before .before in let c₆ = c₅ .before .before in let c₇ = c₆ .before .before .before .before in let c₈ = c₇ .before .before in c₁ .member-record .ensures _ _ _ ∙ sym (pm.access-on _ _ _ _ _ (via asAsked (c₈ .question .ensures _ _ _ _) (c₇ .asked .given .1)) (via asPicked (c₆ .pick .ensures _ _ _ _ _) (c₅ .picked .given .1)) (c₄ .if1 .left) (via asBuilt (c₃ .field .ensures) (c₂ .read .given .1)))
-
-path-same-length-4 : (t : ℕ) → path-lts.Need-same-length-4 (
-  question-reads.Asked,
-  question-reads.Learnt,
-  pick-reads.Asked,
-  pick-reads.Learnt,
-  no-member-reads.Asked,
-  no-member-reads.Learnt,
-  field-below t,
-  field.Post,
-  member-record-reads.Asked,
-  member-record-reads.Learnt,
-) (path-at t) path.Post
-path-same-length-4 t c = (c .before .before .before .before .before .before .before .before .before .field .kept .1 .1 .0)
-
-path-same-length-5 : (t : ℕ) → path-lts.Need-same-length-5 (
-  question-reads.Asked,
-  question-reads.Learnt,
-  pick-reads.Asked,
-  pick-reads.Learnt,
-  no-member-reads.Asked,
-  no-member-reads.Learnt,
-  field-below t,
-  field.Post,
-  member-record-reads.Asked,
-  member-record-reads.Learnt,
-) (path-at t) path.Post
-path-same-length-5 t c = (c .before .before .before .before .before .before .before .before .before .field .kept .1 .1 .1 .0)
-
-path-same-length-6 : (t : ℕ) → path-lts.Need-same-length-6 (
-  question-reads.Asked,
-  question-reads.Learnt,
-  pick-reads.Asked,
-  pick-reads.Learnt,
-  no-member-reads.Asked,
-  no-member-reads.Learnt,
-  field-below t,
-  field.Post,
-  member-record-reads.Asked,
-  member-record-reads.Learnt,
-) (path-at t) path.Post
-path-same-length-6 t c = (c .before .before .before .before .before .before .before .before .before .field .kept .1 .1 .1 .1 .0)
-
-path-returns-5 : (t : ℕ) → path-lts.Need-returns-5 (
-  question-reads.Asked,
-  question-reads.Learnt,
-  pick-reads.Asked,
-  pick-reads.Learnt,
-  no-member-reads.Asked,
-  no-member-reads.Learnt,
-  field-below t,
-  field.Post,
-  member-record-reads.Asked,
-  member-record-reads.Learnt,
-) (path-at t) path.Post
-path-returns-5 t c = let c₁ = c .before in let c₂ = c₁ .before .before .before .before .before .before .before .before in let c₃ = c₂ .before .before .before .before .before in let c₄ = c₃ .before .before in let c₅ = c₄ .before .before in let c₆ = c₅ .before .before .before .before in let c₇ = c₆ .before .before in sym (pm.access-lost _ _ _ _ _ (via asAsked (c₇ .question .ensures _ _ _ _) (c₆ .asked .given .1)) (via asPicked (c₅ .pick .ensures _ _ _ _ _) (c₄ .picked .given .1)) (c₃ .if1 .left) (via asBuilt (c₂ .field .ensures) (c₁ .read2 .given .1)))
+path-returns-4 t c = let c₁ = c .before .before .before .before .before .before in let c₂ = c₁ .before .before .before .before .before in let c₃ = c₂ .before .before in let c₄ = c₃ .before .before in let c₅ = c₄ .before .before .before .before in let c₆ = c₅ .before .before in c₁ .member .ensures ∙ sym (pm.access-on _ _ _ _ _ (via asAsked (c₆ .question .ensures _ _ _ _) (c₅ .asked .given .1)) (via asPicked (c₄ .pick .ensures _ _ _ _ _) (c₃ .picked .given .1)) (c₂ .if1 .left))
 
 plain-start-range-requires : (t : ℕ) → plain-lts.Need-start-range-requires (
   start-range-reads.Asked,
@@ -17489,7 +17460,7 @@ stmt-returns-4 : (t : ℕ) → stmt-lts.Need-returns-4 (
   plain-below t,
   plain.Post,
 ) (stmt-at t) stmt.Post
-stmt-returns-4 t c = let c₁ = c .before .before .before .before .before .before in let c₂ = c₁ .before .before .before .before .before in let c₃ = c₂ .before in c₁ .plain .ensures ∙ sym (⊎-elim (λ w. st.met _ _ _ (st.stmt-tried _ _ _ (via asTest (c₃ .check .ensures _ _ _ _ _) (w .1 .given .1)) ∙ attempts.undone _ _ _ _ _ (st.function-stmt-is _ _ _ (w .3 .ensures) ∙ via asBuilt (w .8 .ensures) (w .16 .given .1)) (via asMoved (w .18 .ensures _) (w .20 .given .1))) (w .22) (w .23) (w .24) (w .25) (w .26)) (λ w. st.met _ _ _ (st.stmt-plain _ _ _ (via asTest (c₃ .check .ensures _ _ _ _ _) (w .1 .given .1))) (w .3) (w .4) (w .5) (w .6) (w .7)) (c₂ .match .came))
+stmt-returns-4 t c = let c₁ = c .before .before .before .before .before .before in let c₂ = c₁ .before .before .before .before .before in let c₃ = c₂ .before in c₁ .plain .ensures ∙ sym (⊎-elim (λ w. st.met _ _ _ (st.stmt-tried _ _ _ (via asTest (c₃ .check .ensures _ _ _ _ _) (w .1 .given .1)) ∙ attempts.starts-over _ _ _ _ _ (st.function-stmt-is _ _ _ (w .3 .ensures) ∙ via asBuilt (w .8 .ensures) (w .16 .given .1)) (via asMoved (w .18 .ensures _) (w .20 .given .1))) (w .22) (w .23) (w .24) (w .25) (w .26)) (λ w. st.met _ _ _ (st.stmt-plain _ _ _ (via asTest (c₃ .check .ensures _ _ _ _ _) (w .1 .given .1))) (w .3) (w .4) (w .5) (w .6) (w .7)) (c₂ .match .came))
 
 table-expr-requires : (t : ℕ) → table-lts.Need-expr-requires (
   expr-below t,
@@ -18450,8 +18421,8 @@ tried-current-range-requires : (t : ℕ) → tried-lts.Need-current-range-requir
   alone-reads.Learnt,
   erred-reads.Asked,
   erred-reads.Learnt,
-  catch-below t,
-  catch.Post,
+  hand-below t,
+  hand.Post,
   add-reads.Asked,
   add-reads.Learnt,
   check-reads.Asked,
@@ -18474,8 +18445,8 @@ tried-bump-requires : (t : ℕ) → tried-lts.Need-bump-requires (
   alone-reads.Learnt,
   erred-reads.Asked,
   erred-reads.Learnt,
-  catch-below t,
-  catch.Post,
+  hand-below t,
+  hand.Post,
   add-reads.Asked,
   add-reads.Learnt,
   check-reads.Asked,
@@ -18498,8 +18469,8 @@ tried-enum-known-taken : (t : ℕ) → tried-lts.Need-enum-known-taken (
   alone-reads.Learnt,
   erred-reads.Asked,
   erred-reads.Learnt,
-  catch-below t,
-  catch.Post,
+  hand-below t,
+  hand.Post,
   add-reads.Asked,
   add-reads.Learnt,
   check-reads.Asked,
@@ -18522,8 +18493,8 @@ tried-enum-known-taken-2 : (t : ℕ) → tried-lts.Need-enum-known-taken-2 (
   alone-reads.Learnt,
   erred-reads.Asked,
   erred-reads.Learnt,
-  catch-below t,
-  catch.Post,
+  hand-below t,
+  hand.Post,
   add-reads.Asked,
   add-reads.Learnt,
   check-reads.Asked,
@@ -18546,8 +18517,8 @@ tried-returns : (t : ℕ) → tried-lts.Need-returns (
   alone-reads.Learnt,
   erred-reads.Asked,
   erred-reads.Learnt,
-  catch-below t,
-  catch.Post,
+  hand-below t,
+  hand.Post,
   add-reads.Asked,
   add-reads.Learnt,
   check-reads.Asked,
@@ -18570,8 +18541,8 @@ tried-prim-requires : (t : ℕ) → tried-lts.Need-prim-requires (
   alone-reads.Learnt,
   erred-reads.Asked,
   erred-reads.Learnt,
-  catch-below t,
-  catch.Post,
+  hand-below t,
+  hand.Post,
   add-reads.Asked,
   add-reads.Learnt,
   check-reads.Asked,
@@ -18594,8 +18565,8 @@ tried-enum-known-read : (t : ℕ) → tried-lts.Need-enum-known-read (
   alone-reads.Learnt,
   erred-reads.Asked,
   erred-reads.Learnt,
-  catch-below t,
-  catch.Post,
+  hand-below t,
+  hand.Post,
   add-reads.Asked,
   add-reads.Learnt,
   check-reads.Asked,
@@ -18618,8 +18589,8 @@ tried-enum-known-read-2 : (t : ℕ) → tried-lts.Need-enum-known-read-2 (
   alone-reads.Learnt,
   erred-reads.Asked,
   erred-reads.Learnt,
-  catch-below t,
-  catch.Post,
+  hand-below t,
+  hand.Post,
   add-reads.Asked,
   add-reads.Learnt,
   check-reads.Asked,
@@ -18642,8 +18613,8 @@ tried-same-length : (t : ℕ) → tried-lts.Need-same-length (
   alone-reads.Learnt,
   erred-reads.Asked,
   erred-reads.Learnt,
-  catch-below t,
-  catch.Post,
+  hand-below t,
+  hand.Post,
   add-reads.Asked,
   add-reads.Learnt,
   check-reads.Asked,
@@ -18666,8 +18637,8 @@ tried-same-length-2 : (t : ℕ) → tried-lts.Need-same-length-2 (
   alone-reads.Learnt,
   erred-reads.Asked,
   erred-reads.Learnt,
-  catch-below t,
-  catch.Post,
+  hand-below t,
+  hand.Post,
   add-reads.Asked,
   add-reads.Learnt,
   check-reads.Asked,
@@ -18690,8 +18661,8 @@ tried-same-length-3 : (t : ℕ) → tried-lts.Need-same-length-3 (
   alone-reads.Learnt,
   erred-reads.Asked,
   erred-reads.Learnt,
-  catch-below t,
-  catch.Post,
+  hand-below t,
+  hand.Post,
   add-reads.Asked,
   add-reads.Learnt,
   check-reads.Asked,
@@ -18714,8 +18685,8 @@ tried-returns-2 : (t : ℕ) → tried-lts.Need-returns-2 (
   alone-reads.Learnt,
   erred-reads.Asked,
   erred-reads.Learnt,
-  catch-below t,
-  catch.Post,
+  hand-below t,
+  hand.Post,
   add-reads.Asked,
   add-reads.Learnt,
   check-reads.Asked,
@@ -18738,8 +18709,8 @@ tried-enum-known-x : (t : ℕ) → tried-lts.Need-enum-known-x (
   alone-reads.Learnt,
   erred-reads.Asked,
   erred-reads.Learnt,
-  catch-below t,
-  catch.Post,
+  hand-below t,
+  hand.Post,
   add-reads.Asked,
   add-reads.Learnt,
   check-reads.Asked,
@@ -18762,8 +18733,8 @@ tried-span-of-requires : (t : ℕ) → tried-lts.Need-span-of-requires (
   alone-reads.Learnt,
   erred-reads.Asked,
   erred-reads.Learnt,
-  catch-below t,
-  catch.Post,
+  hand-below t,
+  hand.Post,
   add-reads.Asked,
   add-reads.Learnt,
   check-reads.Asked,
@@ -18786,8 +18757,8 @@ tried-alone-requires : (t : ℕ) → tried-lts.Need-alone-requires (
   alone-reads.Learnt,
   erred-reads.Asked,
   erred-reads.Learnt,
-  catch-below t,
-  catch.Post,
+  hand-below t,
+  hand.Post,
   add-reads.Asked,
   add-reads.Learnt,
   check-reads.Asked,
@@ -18810,8 +18781,8 @@ tried-erred-requires : (t : ℕ) → tried-lts.Need-erred-requires (
   alone-reads.Learnt,
   erred-reads.Asked,
   erred-reads.Learnt,
-  catch-below t,
-  catch.Post,
+  hand-below t,
+  hand.Post,
   add-reads.Asked,
   add-reads.Learnt,
   check-reads.Asked,
@@ -18834,8 +18805,8 @@ tried-same-length-4 : (t : ℕ) → tried-lts.Need-same-length-4 (
   alone-reads.Learnt,
   erred-reads.Asked,
   erred-reads.Learnt,
-  catch-below t,
-  catch.Post,
+  hand-below t,
+  hand.Post,
   add-reads.Asked,
   add-reads.Learnt,
   check-reads.Asked,
@@ -18858,8 +18829,8 @@ tried-same-length-5 : (t : ℕ) → tried-lts.Need-same-length-5 (
   alone-reads.Learnt,
   erred-reads.Asked,
   erred-reads.Learnt,
-  catch-below t,
-  catch.Post,
+  hand-below t,
+  hand.Post,
   add-reads.Asked,
   add-reads.Learnt,
   check-reads.Asked,
@@ -18882,8 +18853,8 @@ tried-same-length-6 : (t : ℕ) → tried-lts.Need-same-length-6 (
   alone-reads.Learnt,
   erred-reads.Asked,
   erred-reads.Learnt,
-  catch-below t,
-  catch.Post,
+  hand-below t,
+  hand.Post,
   add-reads.Asked,
   add-reads.Learnt,
   check-reads.Asked,
@@ -18906,8 +18877,8 @@ tried-returns-3 : (t : ℕ) → tried-lts.Need-returns-3 (
   alone-reads.Learnt,
   erred-reads.Asked,
   erred-reads.Learnt,
-  catch-below t,
-  catch.Post,
+  hand-below t,
+  hand.Post,
   add-reads.Asked,
   add-reads.Learnt,
   check-reads.Asked,
@@ -18930,8 +18901,8 @@ tried-loop-holds : (t : ℕ) → tried-lts.Need-loop-holds (
   alone-reads.Learnt,
   erred-reads.Asked,
   erred-reads.Learnt,
-  catch-below t,
-  catch.Post,
+  hand-below t,
+  hand.Post,
   add-reads.Asked,
   add-reads.Learnt,
   check-reads.Asked,
@@ -18941,7 +18912,7 @@ tried-loop-holds : (t : ℕ) → tried-lts.Need-loop-holds (
 ) (tried-at t) tried.Post tried-Inv-loop tried-μ-loop
 tried-loop-holds t c = (refl, refl, refl, refl)
 
-tried-catch-requires : (t : ℕ) → tried-lts.Need-catch-requires (
+tried-hand-requires : (t : ℕ) → tried-lts.Need-hand-requires (
   current-range-reads.Asked,
   current-range-reads.Learnt,
   bump-reads.Asked,
@@ -18954,8 +18925,8 @@ tried-catch-requires : (t : ℕ) → tried-lts.Need-catch-requires (
   alone-reads.Learnt,
   erred-reads.Asked,
   erred-reads.Learnt,
-  catch-below t,
-  catch.Post,
+  hand-below t,
+  hand.Post,
   add-reads.Asked,
   add-reads.Learnt,
   check-reads.Asked,
@@ -18963,7 +18934,7 @@ tried-catch-requires : (t : ℕ) → tried-lts.Need-catch-requires (
   handlers-flagged-reads.Asked,
   handlers-flagged-reads.Learnt,
 ) (tried-at t) tried.Post tried-Inv-loop tried-μ-loop
-tried-catch-requires t c κs = (omega (arith, c .before .before .before .before .before .before .before .before .before .before .before .before .before .before .before .before .before .before .before .before .before .before .before .before .before .before .before .before .before .before .before .before .before .before .pre .0), tt)
+tried-hand-requires t c κs = (omega (arith, c .before .before .before .before .before .before .before .before .before .before .before .before .before .before .before .before .before .before .before .before .before .before .before .before .before .before .before .before .before .before .before .before .before .before .pre .0), tt)
 
 tried-enum-known-handled : (t : ℕ) → tried-lts.Need-enum-known-handled (
   current-range-reads.Asked,
@@ -18978,8 +18949,8 @@ tried-enum-known-handled : (t : ℕ) → tried-lts.Need-enum-known-handled (
   alone-reads.Learnt,
   erred-reads.Asked,
   erred-reads.Learnt,
-  catch-below t,
-  catch.Post,
+  hand-below t,
+  hand.Post,
   add-reads.Asked,
   add-reads.Learnt,
   check-reads.Asked,
@@ -19002,8 +18973,8 @@ tried-enum-known-handled-2 : (t : ℕ) → tried-lts.Need-enum-known-handled-2 (
   alone-reads.Learnt,
   erred-reads.Asked,
   erred-reads.Learnt,
-  catch-below t,
-  catch.Post,
+  hand-below t,
+  hand.Post,
   add-reads.Asked,
   add-reads.Learnt,
   check-reads.Asked,
@@ -19026,8 +18997,8 @@ tried-same-length-7 : (t : ℕ) → tried-lts.Need-same-length-7 (
   alone-reads.Learnt,
   erred-reads.Asked,
   erred-reads.Learnt,
-  catch-below t,
-  catch.Post,
+  hand-below t,
+  hand.Post,
   add-reads.Asked,
   add-reads.Learnt,
   check-reads.Asked,
@@ -19035,7 +19006,7 @@ tried-same-length-7 : (t : ℕ) → tried-lts.Need-same-length-7 (
   handlers-flagged-reads.Asked,
   handlers-flagged-reads.Learnt,
 ) (tried-at t) tried.Post tried-Inv-loop tried-μ-loop
-tried-same-length-7 t c = let c₁ = c .before .before .before .before .before .before .before .before .before in let c₂ = c₁ .before .before .before .before .before in let c₃ = c₂ .before .before .before .before .before .before .before .before .before .before .before .before .before .before in (c₁ .catch .kept .1 .1 .0) ∙ (c₂ .loop .inv .1) ∙ (c₃ .prim .kept .1 .1 .0)
+tried-same-length-7 t c = let c₁ = c .before .before .before .before .before .before .before .before .before in let c₂ = c₁ .before .before .before .before .before in let c₃ = c₂ .before .before .before .before .before .before .before .before .before .before .before .before .before .before in (c₁ .hand .kept .1 .1 .0) ∙ (c₂ .loop .inv .1) ∙ (c₃ .prim .kept .1 .1 .0)
 
 tried-same-length-8 : (t : ℕ) → tried-lts.Need-same-length-8 (
   current-range-reads.Asked,
@@ -19050,8 +19021,8 @@ tried-same-length-8 : (t : ℕ) → tried-lts.Need-same-length-8 (
   alone-reads.Learnt,
   erred-reads.Asked,
   erred-reads.Learnt,
-  catch-below t,
-  catch.Post,
+  hand-below t,
+  hand.Post,
   add-reads.Asked,
   add-reads.Learnt,
   check-reads.Asked,
@@ -19059,7 +19030,7 @@ tried-same-length-8 : (t : ℕ) → tried-lts.Need-same-length-8 (
   handlers-flagged-reads.Asked,
   handlers-flagged-reads.Learnt,
 ) (tried-at t) tried.Post tried-Inv-loop tried-μ-loop
-tried-same-length-8 t c = let c₁ = c .before .before .before .before .before .before .before .before .before in let c₂ = c₁ .before .before .before .before .before in let c₃ = c₂ .before .before .before .before .before .before .before .before .before .before .before .before .before .before in (c₁ .catch .kept .1 .1 .1 .0) ∙ (c₂ .loop .inv .2) ∙ (c₃ .prim .kept .1 .1 .1 .0)
+tried-same-length-8 t c = let c₁ = c .before .before .before .before .before .before .before .before .before in let c₂ = c₁ .before .before .before .before .before in let c₃ = c₂ .before .before .before .before .before .before .before .before .before .before .before .before .before .before in (c₁ .hand .kept .1 .1 .1 .0) ∙ (c₂ .loop .inv .2) ∙ (c₃ .prim .kept .1 .1 .1 .0)
 
 tried-same-length-9 : (t : ℕ) → tried-lts.Need-same-length-9 (
   current-range-reads.Asked,
@@ -19074,8 +19045,8 @@ tried-same-length-9 : (t : ℕ) → tried-lts.Need-same-length-9 (
   alone-reads.Learnt,
   erred-reads.Asked,
   erred-reads.Learnt,
-  catch-below t,
-  catch.Post,
+  hand-below t,
+  hand.Post,
   add-reads.Asked,
   add-reads.Learnt,
   check-reads.Asked,
@@ -19083,7 +19054,7 @@ tried-same-length-9 : (t : ℕ) → tried-lts.Need-same-length-9 (
   handlers-flagged-reads.Asked,
   handlers-flagged-reads.Learnt,
 ) (tried-at t) tried.Post tried-Inv-loop tried-μ-loop
-tried-same-length-9 t c = let c₁ = c .before .before .before .before .before .before .before .before .before in let c₂ = c₁ .before .before .before .before .before in let c₃ = c₂ .before .before .before .before .before .before .before .before .before .before .before .before .before .before in (c₁ .catch .kept .1 .1 .1 .1 .0) ∙ (c₂ .loop .inv .3) ∙ (c₃ .prim .kept .1 .1 .1 .1 .0)
+tried-same-length-9 t c = let c₁ = c .before .before .before .before .before .before .before .before .before in let c₂ = c₁ .before .before .before .before .before in let c₃ = c₂ .before .before .before .before .before .before .before .before .before .before .before .before .before .before in (c₁ .hand .kept .1 .1 .1 .1 .0) ∙ (c₂ .loop .inv .3) ∙ (c₃ .prim .kept .1 .1 .1 .1 .0)
 
 tried-returns-4 : (t : ℕ) → tried-lts.Need-returns-4 (
   current-range-reads.Asked,
@@ -19098,8 +19069,8 @@ tried-returns-4 : (t : ℕ) → tried-lts.Need-returns-4 (
   alone-reads.Learnt,
   erred-reads.Asked,
   erred-reads.Learnt,
-  catch-below t,
-  catch.Post,
+  hand-below t,
+  hand.Post,
   add-reads.Asked,
   add-reads.Learnt,
   check-reads.Asked,
@@ -19107,7 +19078,7 @@ tried-returns-4 : (t : ℕ) → tried-lts.Need-returns-4 (
   handlers-flagged-reads.Asked,
   handlers-flagged-reads.Learnt,
 ) (tried-at t) tried.Post tried-Inv-loop tried-μ-loop
-tried-returns-4 t c = let c₁ = c .before in let c₂ = c₁ .before .before .before .before .before .before .before .before in let c₃ = c₂ .before .before .before .before .before in let c₄ = c₃ .before .before .before in let c₅ = c₄ .before .before .before in let c₆ = c₅ .before .before .before .before .before .before .before .before in let c₇ = c₆ .before .before .before .before .before .before in let c₈ = c₇ .before .before in sym (pc.tried-lost _ _ _ _ (via asMoved (c₈ .bump .ensures _ _) (c₇ .taken .given .1)) (via asParsed (c₆ .prim .ensures) (c₅ .read .given .1)) (c₄ .x .given .1) (c₃ .loop .inv .0 ∙ turning.loop-failed _ _ (pc.turn-failed _ _ _ _ (via asBuilt (c₂ .catch .ensures) (c₁ .handled2 .given .1)))))
+tried-returns-4 t c = let c₁ = c .before in let c₂ = c₁ .before .before .before .before .before .before .before .before in let c₃ = c₂ .before .before .before .before .before in let c₄ = c₃ .before .before .before in let c₅ = c₄ .before .before .before in let c₆ = c₅ .before .before .before .before .before .before .before .before in let c₇ = c₆ .before .before .before .before .before .before in let c₈ = c₇ .before .before in sym (pc.tried-lost _ _ _ _ (via asMoved (c₈ .bump .ensures _ _) (c₇ .taken .given .1)) (via asParsed (c₆ .prim .ensures) (c₅ .read .given .1)) (c₄ .x .given .1) (c₃ .loop .inv .0 ∙ turning.loop-failed _ _ (pc.turn-failed _ _ _ _ (via asBuilt (c₂ .hand .ensures) (c₁ .handled2 .given .1)))))
 
 tried-add-requires : (t : ℕ) → tried-lts.Need-add-requires (
   current-range-reads.Asked,
@@ -19122,8 +19093,8 @@ tried-add-requires : (t : ℕ) → tried-lts.Need-add-requires (
   alone-reads.Learnt,
   erred-reads.Asked,
   erred-reads.Learnt,
-  catch-below t,
-  catch.Post,
+  hand-below t,
+  hand.Post,
   add-reads.Asked,
   add-reads.Learnt,
   check-reads.Asked,
@@ -19146,8 +19117,8 @@ tried-check-requires : (t : ℕ) → tried-lts.Need-check-requires (
   alone-reads.Learnt,
   erred-reads.Asked,
   erred-reads.Learnt,
-  catch-below t,
-  catch.Post,
+  hand-below t,
+  hand.Post,
   add-reads.Asked,
   add-reads.Learnt,
   check-reads.Asked,
@@ -19170,8 +19141,8 @@ tried-enum-known-again : (t : ℕ) → tried-lts.Need-enum-known-again (
   alone-reads.Learnt,
   erred-reads.Asked,
   erred-reads.Learnt,
-  catch-below t,
-  catch.Post,
+  hand-below t,
+  hand.Post,
   add-reads.Asked,
   add-reads.Learnt,
   check-reads.Asked,
@@ -19194,8 +19165,8 @@ tried-loop-less : (t : ℕ) → tried-lts.Need-loop-less (
   alone-reads.Learnt,
   erred-reads.Asked,
   erred-reads.Learnt,
-  catch-below t,
-  catch.Post,
+  hand-below t,
+  hand.Post,
   add-reads.Asked,
   add-reads.Learnt,
   check-reads.Asked,
@@ -19203,7 +19174,7 @@ tried-loop-less : (t : ℕ) → tried-lts.Need-loop-less (
   handlers-flagged-reads.Asked,
   handlers-flagged-reads.Learnt,
 ) (tried-at t) tried.Post tried-Inv-loop tried-μ-loop
-tried-loop-less t c = let c₁ = c .before in let c₂ = c₁ .before .before in let c₃ = c₂ .before .before .before .before in let c₄ = c₃ .before .before .before in let c₅ = c₄ .before .before .before .before .before .before .before .before in turning.loop-less _ _ (takes.handler-turn-takes _ _) (pc.turn-more _ _ _ _ (via asBuilt (c₅ .catch .ensures) (c₄ .handled .given .1)) (c₃ .add .ensures _ _ _ _) (via asTest (c₂ .check .ensures _ _ _ _ _) (c₁ .again .given .1)))
+tried-loop-less t c = let c₁ = c .before in let c₂ = c₁ .before .before in let c₃ = c₂ .before .before .before .before in let c₄ = c₃ .before .before .before in let c₅ = c₄ .before .before .before .before .before .before .before .before in turning.loop-less _ _ (takes.handler-turn-takes _ _) (pc.turn-more _ _ _ _ (via asBuilt (c₅ .hand .ensures) (c₄ .handled .given .1)) (c₃ .add .ensures _ _ _ _) (via asTest (c₂ .check .ensures _ _ _ _ _) (c₁ .again .given .1)))
 
 tried-loop-again : (t : ℕ) → tried-lts.Need-loop-again (
   current-range-reads.Asked,
@@ -19218,8 +19189,8 @@ tried-loop-again : (t : ℕ) → tried-lts.Need-loop-again (
   alone-reads.Learnt,
   erred-reads.Asked,
   erred-reads.Learnt,
-  catch-below t,
-  catch.Post,
+  hand-below t,
+  hand.Post,
   add-reads.Asked,
   add-reads.Learnt,
   check-reads.Asked,
@@ -19227,7 +19198,7 @@ tried-loop-again : (t : ℕ) → tried-lts.Need-loop-again (
   handlers-flagged-reads.Asked,
   handlers-flagged-reads.Learnt,
 ) (tried-at t) tried.Post tried-Inv-loop tried-μ-loop
-tried-loop-again t c = let c₁ = c .before in let c₂ = c₁ .before .before in let c₃ = c₂ .before .before .before .before in let c₄ = c₃ .before .before .before in let c₅ = c₄ .before .before .before .before .before .before .before .before in let c₆ = c₅ .before .before .before .before .before in (c₆ .loop .inv .0 ∙ turning.loop-more _ _ (takes.handler-turn-takes _ _) (pc.turn-more _ _ _ _ (via asBuilt (c₅ .catch .ensures) (c₄ .handled .given .1)) (c₃ .add .ensures _ _ _ _) (via asTest (c₂ .check .ensures _ _ _ _ _) (c₁ .again .given .1))), ((c₃ .add .kept .0) ∙ (c₅ .catch .kept .1 .1 .0) ∙ (c₆ .loop .inv .1)), ((c₅ .catch .kept .1 .1 .1 .0) ∙ (c₆ .loop .inv .2)), ((c₅ .catch .kept .1 .1 .1 .1 .0) ∙ (c₆ .loop .inv .3)))
+tried-loop-again t c = let c₁ = c .before in let c₂ = c₁ .before .before in let c₃ = c₂ .before .before .before .before in let c₄ = c₃ .before .before .before in let c₅ = c₄ .before .before .before .before .before .before .before .before in let c₆ = c₅ .before .before .before .before .before in (c₆ .loop .inv .0 ∙ turning.loop-more _ _ (takes.handler-turn-takes _ _) (pc.turn-more _ _ _ _ (via asBuilt (c₅ .hand .ensures) (c₄ .handled .given .1)) (c₃ .add .ensures _ _ _ _) (via asTest (c₂ .check .ensures _ _ _ _ _) (c₁ .again .given .1))), ((c₃ .add .kept .0) ∙ (c₅ .hand .kept .1 .1 .0) ∙ (c₆ .loop .inv .1)), ((c₅ .hand .kept .1 .1 .1 .0) ∙ (c₆ .loop .inv .2)), ((c₅ .hand .kept .1 .1 .1 .1 .0) ∙ (c₆ .loop .inv .3)))
 
 tried-enum-known-again-2 : (t : ℕ) → tried-lts.Need-enum-known-again-2 (
   current-range-reads.Asked,
@@ -19242,8 +19213,8 @@ tried-enum-known-again-2 : (t : ℕ) → tried-lts.Need-enum-known-again-2 (
   alone-reads.Learnt,
   erred-reads.Asked,
   erred-reads.Learnt,
-  catch-below t,
-  catch.Post,
+  hand-below t,
+  hand.Post,
   add-reads.Asked,
   add-reads.Learnt,
   check-reads.Asked,
@@ -19266,8 +19237,8 @@ tried-handlers-flagged-requires : (t : ℕ) → tried-lts.Need-handlers-flagged-
   alone-reads.Learnt,
   erred-reads.Asked,
   erred-reads.Learnt,
-  catch-below t,
-  catch.Post,
+  hand-below t,
+  hand.Post,
   add-reads.Asked,
   add-reads.Learnt,
   check-reads.Asked,
@@ -19290,8 +19261,8 @@ tried-same-length-10 : (t : ℕ) → tried-lts.Need-same-length-10 (
   alone-reads.Learnt,
   erred-reads.Asked,
   erred-reads.Learnt,
-  catch-below t,
-  catch.Post,
+  hand-below t,
+  hand.Post,
   add-reads.Asked,
   add-reads.Learnt,
   check-reads.Asked,
@@ -19299,7 +19270,7 @@ tried-same-length-10 : (t : ℕ) → tried-lts.Need-same-length-10 (
   handlers-flagged-reads.Asked,
   handlers-flagged-reads.Learnt,
 ) (tried-at t) tried.Post tried-Inv-loop tried-μ-loop
-tried-same-length-10 t c = let c₁ = c .before .before in let c₂ = c₁ .before .before .before .before .before .before .before .before .before in let c₃ = c₂ .before .before .before .before .before .before .before .before .before .before .before in let c₄ = c₃ .before .before .before .before .before in let c₅ = c₄ .before .before .before .before .before .before .before .before .before .before .before .before .before .before in (c₁ .handlers-flagged .kept .0) ∙ (c₂ .add .kept .0) ∙ (c₃ .catch .kept .1 .1 .0) ∙ (c₄ .loop .inv .1) ∙ (c₅ .prim .kept .1 .1 .0)
+tried-same-length-10 t c = let c₁ = c .before .before in let c₂ = c₁ .before .before .before .before .before .before .before .before .before in let c₃ = c₂ .before .before .before .before .before .before .before .before .before .before .before in let c₄ = c₃ .before .before .before .before .before in let c₅ = c₄ .before .before .before .before .before .before .before .before .before .before .before .before .before .before in (c₁ .handlers-flagged .kept .0) ∙ (c₂ .add .kept .0) ∙ (c₃ .hand .kept .1 .1 .0) ∙ (c₄ .loop .inv .1) ∙ (c₅ .prim .kept .1 .1 .0)
 
 tried-same-length-11 : (t : ℕ) → tried-lts.Need-same-length-11 (
   current-range-reads.Asked,
@@ -19314,8 +19285,8 @@ tried-same-length-11 : (t : ℕ) → tried-lts.Need-same-length-11 (
   alone-reads.Learnt,
   erred-reads.Asked,
   erred-reads.Learnt,
-  catch-below t,
-  catch.Post,
+  hand-below t,
+  hand.Post,
   add-reads.Asked,
   add-reads.Learnt,
   check-reads.Asked,
@@ -19323,7 +19294,7 @@ tried-same-length-11 : (t : ℕ) → tried-lts.Need-same-length-11 (
   handlers-flagged-reads.Asked,
   handlers-flagged-reads.Learnt,
 ) (tried-at t) tried.Post tried-Inv-loop tried-μ-loop
-tried-same-length-11 t c = let c₁ = c .before .before .before .before .before .before .before .before .before .before .before .before .before .before .before .before .before .before .before .before .before .before in let c₂ = c₁ .before .before .before .before .before in let c₃ = c₂ .before .before .before .before .before .before .before .before .before .before .before .before .before .before in (c₁ .catch .kept .1 .1 .1 .0) ∙ (c₂ .loop .inv .2) ∙ (c₃ .prim .kept .1 .1 .1 .0)
+tried-same-length-11 t c = let c₁ = c .before .before .before .before .before .before .before .before .before .before .before .before .before .before .before .before .before .before .before .before .before .before in let c₂ = c₁ .before .before .before .before .before in let c₃ = c₂ .before .before .before .before .before .before .before .before .before .before .before .before .before .before in (c₁ .hand .kept .1 .1 .1 .0) ∙ (c₂ .loop .inv .2) ∙ (c₃ .prim .kept .1 .1 .1 .0)
 
 tried-same-length-12 : (t : ℕ) → tried-lts.Need-same-length-12 (
   current-range-reads.Asked,
@@ -19338,8 +19309,8 @@ tried-same-length-12 : (t : ℕ) → tried-lts.Need-same-length-12 (
   alone-reads.Learnt,
   erred-reads.Asked,
   erred-reads.Learnt,
-  catch-below t,
-  catch.Post,
+  hand-below t,
+  hand.Post,
   add-reads.Asked,
   add-reads.Learnt,
   check-reads.Asked,
@@ -19347,7 +19318,7 @@ tried-same-length-12 : (t : ℕ) → tried-lts.Need-same-length-12 (
   handlers-flagged-reads.Asked,
   handlers-flagged-reads.Learnt,
 ) (tried-at t) tried.Post tried-Inv-loop tried-μ-loop
-tried-same-length-12 t c = let c₁ = c .before .before .before .before .before .before .before .before .before .before .before .before .before .before .before .before .before .before .before .before .before .before in let c₂ = c₁ .before .before .before .before .before in let c₃ = c₂ .before .before .before .before .before .before .before .before .before .before .before .before .before .before in (c₁ .catch .kept .1 .1 .1 .1 .0) ∙ (c₂ .loop .inv .3) ∙ (c₃ .prim .kept .1 .1 .1 .1 .0)
+tried-same-length-12 t c = let c₁ = c .before .before .before .before .before .before .before .before .before .before .before .before .before .before .before .before .before .before .before .before .before .before in let c₂ = c₁ .before .before .before .before .before in let c₃ = c₂ .before .before .before .before .before .before .before .before .before .before .before .before .before .before in (c₁ .hand .kept .1 .1 .1 .1 .0) ∙ (c₂ .loop .inv .3) ∙ (c₃ .prim .kept .1 .1 .1 .1 .0)
 
 tried-returns-5 : (t : ℕ) → tried-lts.Need-returns-5 (
   current-range-reads.Asked,
@@ -19362,8 +19333,8 @@ tried-returns-5 : (t : ℕ) → tried-lts.Need-returns-5 (
   alone-reads.Learnt,
   erred-reads.Asked,
   erred-reads.Learnt,
-  catch-below t,
-  catch.Post,
+  hand-below t,
+  hand.Post,
   add-reads.Asked,
   add-reads.Learnt,
   check-reads.Asked,
@@ -19371,7 +19342,7 @@ tried-returns-5 : (t : ℕ) → tried-lts.Need-returns-5 (
   handlers-flagged-reads.Asked,
   handlers-flagged-reads.Learnt,
 ) (tried-at t) tried.Post tried-Inv-loop tried-μ-loop
-tried-returns-5 t c = let c₁ = c .before .before in let c₂ = c₁ .before .before .before in let c₃ = c₂ .before .before in let c₄ = c₃ .before .before .before .before in let c₅ = c₄ .before .before .before in let c₆ = c₅ .before .before .before .before .before .before .before .before in let c₇ = c₆ .before .before .before .before .before in let c₈ = c₇ .before .before .before in let c₉ = c₈ .before .before .before in let c₁₀ = c₉ .before .before .before .before .before .before .before .before in let c₁₁ = c₁₀ .before .before .before .before .before .before in let c₁₂ = c₁₁ .before .before in sym (pc.tried-on _ _ _ _ (via asMoved (c₁₂ .bump .ensures _ _) (c₁₁ .taken .given .1)) (via asParsed (c₁₀ .prim .ensures) (c₉ .read .given .1)) (c₈ .x .given .1) (c₇ .loop .inv .0 ∙ turning.loop-stop _ _ (pc.turn-stop _ _ _ _ (via asBuilt (c₆ .catch .ensures) (c₅ .handled .given .1)) (c₄ .add .ensures _ _ _ _) (via asTest (c₃ .check .ensures _ _ _ _ _) (c₂ .again2 .given .1)))) (c₁ .handlers-flagged .ensures _ _ _ _))
+tried-returns-5 t c = let c₁ = c .before .before in let c₂ = c₁ .before .before .before in let c₃ = c₂ .before .before in let c₄ = c₃ .before .before .before .before in let c₅ = c₄ .before .before .before in let c₆ = c₅ .before .before .before .before .before .before .before .before in let c₇ = c₆ .before .before .before .before .before in let c₈ = c₇ .before .before .before in let c₉ = c₈ .before .before .before in let c₁₀ = c₉ .before .before .before .before .before .before .before .before in let c₁₁ = c₁₀ .before .before .before .before .before .before in let c₁₂ = c₁₁ .before .before in sym (pc.tried-on _ _ _ _ (via asMoved (c₁₂ .bump .ensures _ _) (c₁₁ .taken .given .1)) (via asParsed (c₁₀ .prim .ensures) (c₉ .read .given .1)) (c₈ .x .given .1) (c₇ .loop .inv .0 ∙ turning.loop-stop _ _ (pc.turn-stop _ _ _ _ (via asBuilt (c₆ .hand .ensures) (c₅ .handled .given .1)) (c₄ .add .ensures _ _ _ _) (via asTest (c₃ .check .ensures _ _ _ _ _) (c₂ .again2 .given .1)))) (c₁ .handlers-flagged .ensures _ _ _ _))
 
 tried-enum-known-again-3 : (t : ℕ) → tried-lts.Need-enum-known-again-3 (
   current-range-reads.Asked,
@@ -19386,8 +19357,8 @@ tried-enum-known-again-3 : (t : ℕ) → tried-lts.Need-enum-known-again-3 (
   alone-reads.Learnt,
   erred-reads.Asked,
   erred-reads.Learnt,
-  catch-below t,
-  catch.Post,
+  hand-below t,
+  hand.Post,
   add-reads.Asked,
   add-reads.Learnt,
   check-reads.Asked,
@@ -19410,8 +19381,8 @@ tried-same-length-13 : (t : ℕ) → tried-lts.Need-same-length-13 (
   alone-reads.Learnt,
   erred-reads.Asked,
   erred-reads.Learnt,
-  catch-below t,
-  catch.Post,
+  hand-below t,
+  hand.Post,
   add-reads.Asked,
   add-reads.Learnt,
   check-reads.Asked,
@@ -19419,7 +19390,7 @@ tried-same-length-13 : (t : ℕ) → tried-lts.Need-same-length-13 (
   handlers-flagged-reads.Asked,
   handlers-flagged-reads.Learnt,
 ) (tried-at t) tried.Post tried-Inv-loop tried-μ-loop
-tried-same-length-13 t c = let c₁ = c .before .before .before .before .before .before .before in let c₂ = c₁ .before .before .before .before .before .before .before .before .before .before .before in let c₃ = c₂ .before .before .before .before .before in let c₄ = c₃ .before .before .before .before .before .before .before .before .before .before .before .before .before .before in (c₁ .add .kept .0) ∙ (c₂ .catch .kept .1 .1 .0) ∙ (c₃ .loop .inv .1) ∙ (c₄ .prim .kept .1 .1 .0)
+tried-same-length-13 t c = let c₁ = c .before .before .before .before .before .before .before in let c₂ = c₁ .before .before .before .before .before .before .before .before .before .before .before in let c₃ = c₂ .before .before .before .before .before in let c₄ = c₃ .before .before .before .before .before .before .before .before .before .before .before .before .before .before in (c₁ .add .kept .0) ∙ (c₂ .hand .kept .1 .1 .0) ∙ (c₃ .loop .inv .1) ∙ (c₄ .prim .kept .1 .1 .0)
 
 tried-same-length-14 : (t : ℕ) → tried-lts.Need-same-length-14 (
   current-range-reads.Asked,
@@ -19434,8 +19405,8 @@ tried-same-length-14 : (t : ℕ) → tried-lts.Need-same-length-14 (
   alone-reads.Learnt,
   erred-reads.Asked,
   erred-reads.Learnt,
-  catch-below t,
-  catch.Post,
+  hand-below t,
+  hand.Post,
   add-reads.Asked,
   add-reads.Learnt,
   check-reads.Asked,
@@ -19443,7 +19414,7 @@ tried-same-length-14 : (t : ℕ) → tried-lts.Need-same-length-14 (
   handlers-flagged-reads.Asked,
   handlers-flagged-reads.Learnt,
 ) (tried-at t) tried.Post tried-Inv-loop tried-μ-loop
-tried-same-length-14 t c = let c₁ = c .before .before .before .before .before .before .before .before .before .before .before .before .before .before .before .before .before .before in let c₂ = c₁ .before .before .before .before .before in let c₃ = c₂ .before .before .before .before .before .before .before .before .before .before .before .before .before .before in (c₁ .catch .kept .1 .1 .1 .0) ∙ (c₂ .loop .inv .2) ∙ (c₃ .prim .kept .1 .1 .1 .0)
+tried-same-length-14 t c = let c₁ = c .before .before .before .before .before .before .before .before .before .before .before .before .before .before .before .before .before .before in let c₂ = c₁ .before .before .before .before .before in let c₃ = c₂ .before .before .before .before .before .before .before .before .before .before .before .before .before .before in (c₁ .hand .kept .1 .1 .1 .0) ∙ (c₂ .loop .inv .2) ∙ (c₃ .prim .kept .1 .1 .1 .0)
 
 tried-same-length-15 : (t : ℕ) → tried-lts.Need-same-length-15 (
   current-range-reads.Asked,
@@ -19458,8 +19429,8 @@ tried-same-length-15 : (t : ℕ) → tried-lts.Need-same-length-15 (
   alone-reads.Learnt,
   erred-reads.Asked,
   erred-reads.Learnt,
-  catch-below t,
-  catch.Post,
+  hand-below t,
+  hand.Post,
   add-reads.Asked,
   add-reads.Learnt,
   check-reads.Asked,
@@ -19467,7 +19438,7 @@ tried-same-length-15 : (t : ℕ) → tried-lts.Need-same-length-15 (
   handlers-flagged-reads.Asked,
   handlers-flagged-reads.Learnt,
 ) (tried-at t) tried.Post tried-Inv-loop tried-μ-loop
-tried-same-length-15 t c = let c₁ = c .before .before .before .before .before .before .before .before .before .before .before .before .before .before .before .before .before .before in let c₂ = c₁ .before .before .before .before .before in let c₃ = c₂ .before .before .before .before .before .before .before .before .before .before .before .before .before .before in (c₁ .catch .kept .1 .1 .1 .1 .0) ∙ (c₂ .loop .inv .3) ∙ (c₃ .prim .kept .1 .1 .1 .1 .0)
+tried-same-length-15 t c = let c₁ = c .before .before .before .before .before .before .before .before .before .before .before .before .before .before .before .before .before .before in let c₂ = c₁ .before .before .before .before .before in let c₃ = c₂ .before .before .before .before .before .before .before .before .before .before .before .before .before .before in (c₁ .hand .kept .1 .1 .1 .1 .0) ∙ (c₂ .loop .inv .3) ∙ (c₃ .prim .kept .1 .1 .1 .1 .0)
 
 tried-returns-6 : (t : ℕ) → tried-lts.Need-returns-6 (
   current-range-reads.Asked,
@@ -19482,8 +19453,8 @@ tried-returns-6 : (t : ℕ) → tried-lts.Need-returns-6 (
   alone-reads.Learnt,
   erred-reads.Asked,
   erred-reads.Learnt,
-  catch-below t,
-  catch.Post,
+  hand-below t,
+  hand.Post,
   add-reads.Asked,
   add-reads.Learnt,
   check-reads.Asked,
@@ -19491,7 +19462,7 @@ tried-returns-6 : (t : ℕ) → tried-lts.Need-returns-6 (
   handlers-flagged-reads.Asked,
   handlers-flagged-reads.Learnt,
 ) (tried-at t) tried.Post tried-Inv-loop tried-μ-loop
-tried-returns-6 t c = let c₁ = c .before in let c₂ = c₁ .before .before in let c₃ = c₂ .before .before .before .before in let c₄ = c₃ .before .before .before in let c₅ = c₄ .before .before .before .before .before .before .before .before in let c₆ = c₅ .before .before .before .before .before in let c₇ = c₆ .before .before .before in let c₈ = c₇ .before .before .before in let c₉ = c₈ .before .before .before .before .before .before .before .before in let c₁₀ = c₉ .before .before .before .before .before .before in let c₁₁ = c₁₀ .before .before in sym (pc.tried-lost _ _ _ _ (via asMoved (c₁₁ .bump .ensures _ _) (c₁₀ .taken .given .1)) (via asParsed (c₉ .prim .ensures) (c₈ .read .given .1)) (c₇ .x .given .1) (c₆ .loop .inv .0 ∙ turning.loop-failed _ _ (pc.turn-full _ _ _ _ (via asBuilt (c₅ .catch .ensures) (c₄ .handled .given .1)) (c₃ .add .ensures _ _ _ _) (via asTest (c₂ .check .ensures _ _ _ _ _) (c₁ .again3 .given .1)))))
+tried-returns-6 t c = let c₁ = c .before in let c₂ = c₁ .before .before in let c₃ = c₂ .before .before .before .before in let c₄ = c₃ .before .before .before in let c₅ = c₄ .before .before .before .before .before .before .before .before in let c₆ = c₅ .before .before .before .before .before in let c₇ = c₆ .before .before .before in let c₈ = c₇ .before .before .before in let c₉ = c₈ .before .before .before .before .before .before .before .before in let c₁₀ = c₉ .before .before .before .before .before .before in let c₁₁ = c₁₀ .before .before in sym (pc.tried-lost _ _ _ _ (via asMoved (c₁₁ .bump .ensures _ _) (c₁₀ .taken .given .1)) (via asParsed (c₉ .prim .ensures) (c₈ .read .given .1)) (c₇ .x .given .1) (c₆ .loop .inv .0 ∙ turning.loop-failed _ _ (pc.turn-full _ _ _ _ (via asBuilt (c₅ .hand .ensures) (c₄ .handled .given .1)) (c₃ .add .ensures _ _ _ _) (via asTest (c₂ .check .ensures _ _ _ _ _) (c₁ .again3 .given .1)))))
 
 typed-enum-known-x : (t : ℕ) → typed-lts.Need-enum-known-x (
   unexpected-reads.Asked,
@@ -20725,9 +20696,9 @@ unary-returns-7 : (t : ℕ) → unary-lts.Need-returns-7 (
 ) (unary-at t) unary.Post
 unary-returns-7 t c = let c₁ = c .before in let c₂ = c₁ .before .before .before .before in let c₃ = c₂ .before in let c₄ = c₃ .before .before .before in let c₅ = c₄ .before .before .before .before .before .before .before .before in let c₆ = c₅ .before .before .before .before .before .before in let c₇ = c₆ .before .before in let c₈ = c₇ .before in let c₉ = c₈ .before in let c₁₀ = c₉ .before in let c₁₁ = c₁₀ .before .before in let c₁₂ = c₁₁ .before .before in let c₁₃ = c₁₂ .before .before .before in sym (pc.unary-lost _ _ _ _ (c₁₃ .start-range .ensures) (via asPicked (c₁₂ .pick .ensures _ _ _ _ _) (c₁₁ .picked .given .1)) (c₁₀ .if1 .left) (c₉ .if2 .left) (via asMoved (c₇ .bump .ensures _ _) (c₆ .taken .given .1)) (via asParsed (c₅ .prim2 .ensures) (c₄ .read .given .1)) (c₈ .current-kind .ensures) (c₃ .link-of .ensures) (via asBuilt (c₂ .close .ensures _ _ _) (c₁ .built2 .given .1)))
 
-pub +anon+arms+assign+atom+block+brace+call+case+catch+cond+def+each+expr+exprs+field+form+func+glo+group+head+item+items+key+lhs+loops+many+op+path+plain+post+prec+prim+rhs+set+stmt+table+tried+typed+unary-spec :
+pub +anon+arms+assign+atom+block+brace+call+case+cond+def+each+expr+exprs+form+func+glo+group+hand+head+item+items+key+lhs+loops+many+member+op+path+plain+post+prec+prim+rhs+set+stmt+table+tried+typed+unary-spec :
     {M : Type 1} → statement M
-+anon+arms+assign+atom+block+brace+call+case+catch+cond+def+each+expr+exprs+field+form+func+glo+group+head+item+items+key+lhs+loops+many+op+path+plain+post+prec+prim+rhs+set+stmt+table+tried+typed+unary-spec =
++anon+arms+assign+atom+block+brace+call+case+cond+def+each+expr+exprs+form+func+glo+group+hand+head+item+items+key+lhs+loops+many+member+op+path+plain+post+prec+prim+rhs+set+stmt+table+tried+typed+unary-spec =
     close
     μ-anon
     μ-arms
@@ -20737,17 +20708,16 @@ pub +anon+arms+assign+atom+block+brace+call+case+catch+cond+def+each+expr+exprs+
     μ-brace
     μ-call
     μ-case
-    μ-catch
     μ-cond
     μ-def
     μ-each
     μ-expr
     μ-exprs
-    μ-field
     μ-form
     μ-func
     μ-glo
     μ-group
+    μ-hand
     μ-head
     μ-item
     μ-items
@@ -20755,6 +20725,7 @@ pub +anon+arms+assign+atom+block+brace+call+case+catch+cond+def+each+expr+exprs+
     μ-lhs
     μ-loops
     μ-many
+    μ-member
     μ-op
     μ-path
     μ-plain
@@ -21155,49 +21126,6 @@ pub +anon+arms+assign+atom+block+brace+call+case+catch+cond+def+each+expr+exprs+
     (case-same-length-7 t)
     (case-same-length-8 t)
     (case-returns-4 t))
-    (λ t. catch-lts.spec (
-      start-range-reads.Asked,
-      start-range-reads.Learnt,
-      expect-reads.Asked,
-      expect-reads.Learnt,
-      ident-reads.Asked,
-      ident-reads.Learnt,
-      params-reads.Asked,
-      params-reads.Learnt,
-      block-below t,
-      block.Post,
-      handler-record-reads.Asked,
-      handler-record-reads.Learnt,
-    )
-    (catch-at t)
-    catch.Post
-    (catch-start-range-requires t)
-    (catch-expect-requires t)
-    (catch-enum-known-opened t)
-    (catch-enum-known-opened-2 t)
-    (catch-returns t)
-    (catch-ident-requires t)
-    (catch-enum-known-named t)
-    (catch-enum-known-named-2 t)
-    (catch-same-length t)
-    (catch-returns-2 t)
-    (catch-params-requires t)
-    (catch-enum-known-listed t)
-    (catch-enum-known-listed-2 t)
-    (catch-same-length-2 t)
-    (catch-returns-3 t)
-    (catch-block-requires t)
-    (catch-enum-known-read t)
-    (catch-handler-record-requires t)
-    (catch-enum-known-read-2 t)
-    (catch-same-length-3 t)
-    (catch-same-length-4 t)
-    (catch-same-length-5 t)
-    (catch-returns-4 t)
-    (catch-same-length-6 t)
-    (catch-same-length-7 t)
-    (catch-same-length-8 t)
-    (catch-returns-5 t))
     (λ t. cond-lts.spec (
       bump-reads.Asked,
       bump-reads.Learnt,
@@ -21407,54 +21335,6 @@ pub +anon+arms+assign+atom+block+brace+call+case+catch+cond+def+each+expr+exprs+
     (exprs-same-length-14 t)
     (exprs-same-length-15 t)
     (exprs-returns-7 t))
-    (λ t. field-lts.spec (
-      bump-reads.Asked,
-      bump-reads.Learnt,
-      eat-reads.Asked,
-      eat-reads.Learnt,
-      meta-end-reads.Asked,
-      meta-end-reads.Learnt,
-      ident-reads.Asked,
-      ident-reads.Learnt,
-      expr-below t,
-      expr.Post,
-      expect-reads.Asked,
-      expect-reads.Learnt,
-    )
-    (field-at t)
-    field.Post
-    (field-bump-requires t)
-    (field-enum-known-opened t)
-    (field-enum-known-opened-2 t)
-    (field-returns t)
-    (field-eat-requires t)
-    (field-enum-known-meta t)
-    (field-meta-end-requires t)
-    (field-returns-2 t)
-    (field-enum-known-meta-2 t)
-    (field-enum-known-meta-3 t)
-    (field-returns-3 t)
-    (field-ident-requires t)
-    (field-same-length t)
-    (field-returns-4 t)
-    (field-expr-requires t)
-    (field-enum-known-read t)
-    (field-enum-known-read-2 t)
-    (field-same-length-2 t)
-    (field-same-length-3 t)
-    (field-same-length-4 t)
-    (field-returns-5 t)
-    (field-expect-requires t)
-    (field-enum-known-closed t)
-    (field-enum-known-closed-2 t)
-    (field-same-length-5 t)
-    (field-same-length-6 t)
-    (field-same-length-7 t)
-    (field-returns-6 t)
-    (field-same-length-8 t)
-    (field-same-length-9 t)
-    (field-same-length-10 t)
-    (field-returns-7 t))
     (λ t. form-lts.spec (
       group-below t,
       group.Post,
@@ -21663,6 +21543,49 @@ pub +anon+arms+assign+atom+block+brace+call+case+catch+cond+def+each+expr+exprs+
     (group-same-length-14 t)
     (group-same-length-15 t)
     (group-returns-6 t))
+    (λ t. hand-lts.spec (
+      start-range-reads.Asked,
+      start-range-reads.Learnt,
+      expect-reads.Asked,
+      expect-reads.Learnt,
+      ident-reads.Asked,
+      ident-reads.Learnt,
+      params-reads.Asked,
+      params-reads.Learnt,
+      block-below t,
+      block.Post,
+      handler-record-reads.Asked,
+      handler-record-reads.Learnt,
+    )
+    (hand-at t)
+    hand.Post
+    (hand-start-range-requires t)
+    (hand-expect-requires t)
+    (hand-enum-known-opened t)
+    (hand-enum-known-opened-2 t)
+    (hand-returns t)
+    (hand-ident-requires t)
+    (hand-enum-known-named t)
+    (hand-enum-known-named-2 t)
+    (hand-same-length t)
+    (hand-returns-2 t)
+    (hand-params-requires t)
+    (hand-enum-known-listed t)
+    (hand-enum-known-listed-2 t)
+    (hand-same-length-2 t)
+    (hand-returns-3 t)
+    (hand-block-requires t)
+    (hand-enum-known-read t)
+    (hand-handler-record-requires t)
+    (hand-enum-known-read-2 t)
+    (hand-same-length-3 t)
+    (hand-same-length-4 t)
+    (hand-same-length-5 t)
+    (hand-returns-4 t)
+    (hand-same-length-6 t)
+    (hand-same-length-7 t)
+    (hand-same-length-8 t)
+    (hand-returns-5 t))
     (λ t. head-lts.spec (
       expr-below t,
       expr.Post,
@@ -21977,6 +21900,58 @@ pub +anon+arms+assign+atom+block+brace+call+case+catch+cond+def+each+expr+exprs+
     (many-same-length-17 t)
     (many-same-length-18 t)
     (many-returns-7 t))
+    (λ t. member-lts.spec (
+      bump-reads.Asked,
+      bump-reads.Learnt,
+      eat-reads.Asked,
+      eat-reads.Learnt,
+      meta-member-reads.Asked,
+      meta-member-reads.Learnt,
+      name-member-reads.Asked,
+      name-member-reads.Learnt,
+      expr-below t,
+      expr.Post,
+      expect-reads.Asked,
+      expect-reads.Learnt,
+      member-record-reads.Asked,
+      member-record-reads.Learnt,
+    )
+    (member-at t)
+    member.Post
+    (member-bump-requires t)
+    (member-enum-known-opened t)
+    (member-enum-known-opened-2 t)
+    (member-returns t)
+    (member-eat-requires t)
+    (member-enum-known-meta t)
+    (member-meta-member-requires t)
+    (member-same-length t)
+    (member-returns-2 t)
+    (member-enum-known-meta-2 t)
+    (member-enum-known-meta-3 t)
+    (member-returns-3 t)
+    (member-name-member-requires t)
+    (member-same-length-2 t)
+    (member-returns-4 t)
+    (member-expr-requires t)
+    (member-enum-known-read t)
+    (member-enum-known-read-2 t)
+    (member-same-length-3 t)
+    (member-same-length-4 t)
+    (member-same-length-5 t)
+    (member-returns-5 t)
+    (member-expect-requires t)
+    (member-enum-known-closed t)
+    (member-member-record-requires t)
+    (member-enum-known-closed-2 t)
+    (member-same-length-6 t)
+    (member-same-length-7 t)
+    (member-same-length-8 t)
+    (member-returns-6 t)
+    (member-same-length-9 t)
+    (member-same-length-10 t)
+    (member-same-length-11 t)
+    (member-returns-7 t))
     (λ t. op-lts.spec (
       current-kind-reads.Asked,
       current-kind-reads.Learnt,
@@ -22040,10 +22015,8 @@ pub +anon+arms+assign+atom+block+brace+call+case+catch+cond+def+each+expr+exprs+
       pick-reads.Learnt,
       no-member-reads.Asked,
       no-member-reads.Learnt,
-      field-below t,
-      field.Post,
-      member-record-reads.Asked,
-      member-record-reads.Learnt,
+      member-below t,
+      member.Post,
     )
     (path-at t)
     path.Post
@@ -22058,18 +22031,11 @@ pub +anon+arms+assign+atom+block+brace+call+case+catch+cond+def+each+expr+exprs+
     (path-returns-2 t)
     (path-no-member-requires t)
     (path-returns-3 t)
-    (path-field-requires t)
-    (path-enum-known-read t)
-    (path-member-record-requires t)
-    (path-enum-known-read-2 t)
+    (path-member-requires t)
     (path-same-length t)
     (path-same-length-2 t)
     (path-same-length-3 t)
-    (path-returns-4 t)
-    (path-same-length-4 t)
-    (path-same-length-5 t)
-    (path-same-length-6 t)
-    (path-returns-5 t))
+    (path-returns-4 t))
     (λ t. plain-lts.spec (
       start-range-reads.Asked,
       start-range-reads.Learnt,
@@ -22425,8 +22391,8 @@ pub +anon+arms+assign+atom+block+brace+call+case+catch+cond+def+each+expr+exprs+
       alone-reads.Learnt,
       erred-reads.Asked,
       erred-reads.Learnt,
-      catch-below t,
-      catch.Post,
+      hand-below t,
+      hand.Post,
       add-reads.Asked,
       add-reads.Learnt,
       check-reads.Asked,
@@ -22459,7 +22425,7 @@ pub +anon+arms+assign+atom+block+brace+call+case+catch+cond+def+each+expr+exprs+
     (tried-same-length-6 t)
     (tried-returns-3 t)
     (tried-loop-holds t)
-    (tried-catch-requires t)
+    (tried-hand-requires t)
     (tried-enum-known-handled t)
     (tried-enum-known-handled-2 t)
     (tried-same-length-7 t)
