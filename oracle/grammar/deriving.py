@@ -68,8 +68,9 @@ class Deriver:
         self.carried = {grammar.numbers['kind.' + kind]: (grammar.numbers['node.' + node], flags) for kind, (node, flags) in LITERALS.items()}
         # what the premises compute with
         self.functions = {
-            'suc': lambda number: number + 1, 'memberOf': grammar.members.get, 'levelOf': lambda kind: grammar.levels.get(kind, 0),
-            'kindOf': sheet.kind, 'spanOf': sheet.span, 'after': sheet.after, 'literal': self.literal, 'checkedType': self.checked_type}
+            'suc': lambda number: number + 1, '+': operator.add, 'memberOf': grammar.members.get,
+            'levelOf': lambda kind: grammar.levels.get(kind, 0), 'kindOf': sheet.kind, 'spanOf': sheet.span, 'after': sheet.after,
+            'literal': self.literal, 'checkedType': self.checked_type}
         # the premises that hold or don't, and settle nothing
         self.conditions = {
             'Here': lambda kind, place: sheet.kind(place) == kind, 'Not': lambda kind, place: sheet.kind(place) != kind,
@@ -198,5 +199,5 @@ class Deriver:
 
     def whole(self):
         """The derivations of the sheet: statements up to the end of input, and nothing left (specs/Follows.antt)."""
-        found = self.derive(('Body', self.sheet.end_of_input), 0)
+        found = self.derive(('Exprs', self.sheet.end_of_input), 0)
         return [part for part in found if part.end == len(self.sheet.significant)]
