@@ -15,7 +15,7 @@ ghost use Rattle.rules.specs.Precedence.{infixTurn, unary, tried, handler};
 ghost use Rattle.rules.specs.Primary.{postfixTurn, call, access};
 ghost use Rattle.rules.specs.Tables.{key, item, itemsOf, table, brace};
 ghost use Rattle.rules.specs.Atoms.{ifExpr, matchExpr, matchCase, atom, primary};
-ghost use Rattle.rules.specs.Placed.{member, group, anon, loops, form};
+ghost use Rattle.rules.specs.Placed.{memberProperty, group, anon, loops, form};
 ghost use Rattle.rules.specs.Statements.{right, set, lefts, rights, multi, typedAssign, assign, glo, plain, stmt};
 use crate::suffix::is_suffix;
 use crate::suffix::no_suffix;
@@ -48,7 +48,6 @@ use kinds::Operator;
 use parts::effects::effect_stmt;
 use parts::forms;
 use parts::imports::import_stmt;
-use parts::members;
 use parts::records::atom_expr;
 use parts::records::block_record;
 use parts::records::call_record;
@@ -71,6 +70,7 @@ use parts::steps::ARGUMENTS;
 use parts::steps::Asked;
 use parts::steps::ELEMENTS;
 use parts::steps::PROPERTIES;
+use parts::steps::Pounded;
 use parts::steps::alone;
 use parts::steps::any_params;
 use parts::steps::braced;
@@ -79,11 +79,11 @@ use parts::steps::items_end;
 use parts::steps::leaf;
 use parts::steps::lit_key;
 use parts::steps::loop_names;
-use parts::steps::meta_member;
-use parts::steps::name_member;
+use parts::steps::meta_end;
 use parts::steps::no_member;
 use parts::steps::operator_of;
 use parts::steps::paren_key;
+use parts::steps::pound;
 use parts::steps::question;
 use parts::steps::type_check;
 use parts::values::AssignLeft;
@@ -876,7 +876,7 @@ fn post(
     let trailing = braced(tokens, live, s1, lambda);
     let s2 = match trailing {
         Test::Yes(t) => t,
-        Test::No(t) => return path(text, tokens, nodes, errors, wanted, live, left, t, from, x),
+        Test::No(t) => return access(text, tokens, nodes, errors, wanted, live, left, t, from, x),
         Test::Failed(f) => return Chained::Failed(f),
     };
     let link = link_of(x);
@@ -970,7 +970,7 @@ fn call(
 }
 
 // A member, where one stands here; a `?` needs one.
-fn path(
+fn access(
     text: &[u8],
     tokens: &[u32],
     nodes: &mut [u32],
@@ -1009,7 +1009,17 @@ fn path(
     if 2 < which {
         return no_member(tokens, s2, x, safe);
     }
-    member(
+    let marked = pound(tokens, live, limits, s2);
+    let mut s3: State;
+    let mut meta: bool;
+    match marked {
+        Pounded::Mark(t, y) => {
+            s3 = t;
+            meta = y;
+        }
+        Pounded::Failed(f) => return Chained::Failed(f),
+    }
+    let read = prop(
         text,
         tokens,
         nodes,
@@ -1017,16 +1027,18 @@ fn path(
         wanted,
         live,
         left,
-        s2,
-        from,
-        x,
-        safe,
+        s3,
         which,
-    )
+        meta,
+    );
+    match read {
+        Built::Node(t, link) => member_record(nodes, t, from, x, safe, which, meta, link),
+        Built::Failed(f) => Chained::Failed(f),
+    }
 }
 
-// The macro member_expr, from the opening token on, by that one's place among `[`, `.` and `::`.
-fn member(
+// The property of a member, of the macro member_expr, by the place of its opening token among `[`, `.` and `::`; none where it is a meta member.
+fn prop(
     text: &[u8],
     tokens: &[u32],
     nodes: &mut [u32],
@@ -1035,44 +1047,32 @@ fn member(
     live: &mut [u8; 1024],
     left: Left,
     s: State,
-    from: u32,
-    x: Expr,
-    safe: Ranged,
     which: usize,
-) -> Chained
-    ensures { λ r. ⌜ asChained r (world (now (nodes .exit)) (now (errors .exit)) (now (wanted .exit)) (now (live .exit))) ≡ member (under (now (text .entry)) (now (tokens .entry)) left) from safe x which s (world (now (nodes .entry)) (now (errors .entry)) (now (wanted .entry)) (now (live .entry))) ⌝ }
+    meta: bool,
+) -> Built
+    ensures { λ r. ⌜ asBuilt r (world (now (nodes .exit)) (now (errors .exit)) (now (wanted .exit)) (now (live .exit))) ≡ memberProperty (under (now (text .entry)) (now (tokens .entry)) left) which meta s (world (now (nodes .entry)) (now (errors .entry)) (now (wanted .entry)) (now (live .entry))) ⌝ }
 {
     let limits = left.limits;
-    let opened = bump(tokens, limits, s);
-    let s1 = match opened {
-        Moved::On(t) => t,
-        Moved::Failed(f) => return Chained::Failed(f),
-    };
-    let meta = eat(tokens, live, limits, s1, kinds::POUND);
-    let s2 = match meta {
-        Test::Yes(t) => {
-            return meta_member(tokens, nodes, live, limits, t, from, x, safe, which);
-        }
-        Test::No(t) => t,
-        Test::Failed(f) => return Chained::Failed(f),
-    };
-    if 0 < which {
-        return name_member(tokens, nodes, live, limits, s2, from, x, safe, which);
+    if meta {
+        return meta_end(tokens, live, limits, s, which);
     }
-    let read = expr(text, tokens, nodes, errors, wanted, live, left, s2, true);
-    let mut s3: State;
+    if 0 < which {
+        return ident(tokens, nodes, live, limits, s);
+    }
+    let read = expr(text, tokens, nodes, errors, wanted, live, left, s, true);
+    let mut s1: State;
     let mut link: u32;
     match read {
         Built::Node(t, y) => {
-            s3 = t;
+            s1 = t;
             link = y;
         }
-        Built::Failed(f) => return Chained::Failed(f),
+        Built::Failed(f) => return Built::Failed(f),
     }
-    let closed = expect(tokens, live, limits, s3, kinds::CLOSE_BRACKET);
+    let closed = expect(tokens, live, limits, s1, kinds::CLOSE_BRACKET);
     match closed {
-        Moved::On(t) => member_record(nodes, t, from, x, safe, members::BRACKET, link),
-        Moved::Failed(f) => Chained::Failed(f),
+        Moved::On(t) => Built::Node(t, link),
+        Moved::Failed(f) => Built::Failed(f),
     }
 }
 

@@ -24,7 +24,6 @@ use Rattle.types.specs.Patterns as types-Patterns
 use Rattle.types.specs.Types as types-Types
 use Rattle.parts.specs.Effects as parts-Effects
 use Rattle.parts.specs.Imports as parts-Imports
-use Rattle.parts.specs.Members as parts-Members
 use Rattle.parts.specs.Records as parts-Records
 use Rattle.parts.specs.Recovery as parts-Recovery
 use Rattle.parts.specs.Steps as parts-Steps
@@ -65,11 +64,11 @@ unfolding types-Items.start types-Items.close types-Items.pair types-Items.addSo
 of-types = 0
 
 unfoldable pub of-parts : ℕ
-unfolding parts-Effects.effectRecord parts-Effects.effectStmt parts-Imports.importItem parts-Imports.importItems parts-Imports.importSimple parts-Imports.importAlias parts-Imports.importNested parts-Imports.importGlob parts-Imports.importEnd parts-Imports.importTail parts-Imports.pathTurn parts-Imports.importStmt parts-Members.namedAt parts-Members.metaAt parts-Records.couple parts-Records.rowRecord parts-Records.listRecord parts-Records.wrapped parts-Records.blockRecord parts-Records.fnRecord parts-Records.functionRecord parts-Records.handlerRecord parts-Records.handlersFlagged parts-Records.ifRecord parts-Records.roundRecord parts-Records.callRecord parts-Records.memberRecord parts-Recovery.skipTurn parts-Recovery.skip parts-Recovery.skipped parts-Recovery.recovering parts-Recovery.logHere parts-Recovery.lineEnd parts-Recovery.afterStmt parts-Steps.itemsEnd parts-Steps.checkedType parts-Steps.anyParams parts-Steps.braced parts-Steps.noMember parts-Steps.metaMember parts-Steps.nameMember parts-Steps.litKey parts-Steps.parenKeyAt parts-Steps.parenKey parts-Steps.leaf parts-Steps.nameTurn parts-Steps.names parts-Steps.loopNames parts-Steps.patternTurn parts-Steps.casePatterns parts-Steps.typeChecked parts-Steps.typeCheckAt parts-Steps.typeCheck parts-Until.untilTurn parts-Until.itemsUntil
+unfolding parts-Effects.effectRecord parts-Effects.effectStmt parts-Imports.importItem parts-Imports.importItems parts-Imports.importSimple parts-Imports.importAlias parts-Imports.importNested parts-Imports.importGlob parts-Imports.importEnd parts-Imports.importTail parts-Imports.pathTurn parts-Imports.importStmt parts-Records.couple parts-Records.rowRecord parts-Records.listRecord parts-Records.wrapped parts-Records.blockRecord parts-Records.fnRecord parts-Records.functionRecord parts-Records.handlerRecord parts-Records.handlersFlagged parts-Records.ifRecord parts-Records.roundRecord parts-Records.callRecord parts-Records.memberRecord parts-Recovery.skipTurn parts-Recovery.skip parts-Recovery.skipped parts-Recovery.recovering parts-Recovery.logHere parts-Recovery.lineEnd parts-Recovery.afterStmt parts-Steps.itemsEnd parts-Steps.checkedType parts-Steps.anyParams parts-Steps.braced parts-Steps.noMember parts-Steps.pound parts-Steps.metaEnd parts-Steps.litKey parts-Steps.parenKeyAt parts-Steps.parenKey parts-Steps.leaf parts-Steps.nameTurn parts-Steps.names parts-Steps.loopNames parts-Steps.patternTurn parts-Steps.casePatterns parts-Steps.typeChecked parts-Steps.typeCheckAt parts-Steps.typeCheck parts-Until.untilTurn parts-Until.itemsUntil
 of-parts = 0
 
 unfoldable pub of-exprs : ℕ
-unfolding rules-Atoms.parenExpr rules-Atoms.listExpr rules-Atoms.returnExpr rules-Atoms.fnExpr rules-Atoms.closureExpr rules-Atoms.doExpr rules-Atoms.alternate rules-Atoms.ifExpr rules-Atoms.matchCase rules-Atoms.caseTurn rules-Atoms.matchExpr rules-Atoms.loopExpr rules-Atoms.whileExpr rules-Atoms.forExpr rules-Atoms.breakExpr rules-Atoms.continueExpr rules-Atoms.atom rules-Atoms.primary rules-Blocks.block rules-Blocks.exprAndBlock rules-Exprs.stmtOr rules-Exprs.exprsTurn rules-Exprs.exprs rules-Functions.function rules-Functions.namedFunction rules-Inner.expr rules-Levels.knot rules-Levels.programRecord rules-Levels.program rules-Placed.member rules-Placed.group rules-Placed.doFunction rules-Placed.anonFunction rules-Placed.anon rules-Placed.loops rules-Placed.form rules-Precedence.handler rules-Precedence.handlerTurn rules-Precedence.triedBy rules-Precedence.tried rules-Precedence.unaryOp rules-Precedence.unary rules-Precedence.operated rules-Precedence.infixBy rules-Precedence.infixTurn rules-Precedence.precedence rules-Primary.bracketMember rules-Primary.dotMember rules-Primary.doubleColonMember rules-Primary.access rules-Primary.call rules-Primary.postfixTurn rules-Primary.primaryOf rules-Statements.right rules-Statements.setTo rules-Statements.set rules-Statements.typedAssign rules-Statements.leftOf rules-Statements.leftTurn rules-Statements.lefts rules-Statements.rightTurn rules-Statements.rights rules-Statements.multiTo rules-Statements.multi rules-Statements.assign rules-Statements.gloAssign rules-Statements.glo rules-Statements.plain rules-Statements.functionStmt rules-Statements.stmt rules-Tables.key rules-Tables.property rules-Tables.item rules-Tables.itemsOf rules-Tables.table rules-Tables.braceBlock rules-Tables.tableOrBlock rules-Tables.brace
+unfolding rules-Atoms.parenExpr rules-Atoms.listExpr rules-Atoms.returnExpr rules-Atoms.fnExpr rules-Atoms.closureExpr rules-Atoms.doExpr rules-Atoms.alternate rules-Atoms.ifExpr rules-Atoms.matchCase rules-Atoms.caseTurn rules-Atoms.matchExpr rules-Atoms.loopExpr rules-Atoms.whileExpr rules-Atoms.forExpr rules-Atoms.breakExpr rules-Atoms.continueExpr rules-Atoms.atom rules-Atoms.primary rules-Blocks.block rules-Blocks.exprAndBlock rules-Exprs.stmtOr rules-Exprs.exprsTurn rules-Exprs.exprs rules-Functions.function rules-Functions.namedFunction rules-Inner.expr rules-Levels.knot rules-Levels.programRecord rules-Levels.program rules-Placed.memberProperty rules-Placed.group rules-Placed.doFunction rules-Placed.anonFunction rules-Placed.anon rules-Placed.loops rules-Placed.form rules-Precedence.handler rules-Precedence.handlerTurn rules-Precedence.triedBy rules-Precedence.tried rules-Precedence.unaryOp rules-Precedence.unary rules-Precedence.operated rules-Precedence.infixBy rules-Precedence.infixTurn rules-Precedence.precedence rules-Primary.bracketMember rules-Primary.dotMember rules-Primary.doubleColonMember rules-Primary.access rules-Primary.call rules-Primary.postfixTurn rules-Primary.primaryOf rules-Statements.right rules-Statements.setTo rules-Statements.set rules-Statements.typedAssign rules-Statements.leftOf rules-Statements.leftTurn rules-Statements.lefts rules-Statements.rightTurn rules-Statements.rights rules-Statements.multiTo rules-Statements.multi rules-Statements.assign rules-Statements.gloAssign rules-Statements.glo rules-Statements.plain rules-Statements.functionStmt rules-Statements.stmt rules-Tables.key rules-Tables.property rules-Tables.item rules-Tables.itemsOf rules-Tables.table rules-Tables.braceBlock rules-Tables.tableOrBlock rules-Tables.brace
 of-exprs = 0
 
 unfoldable pub of-parser : ℕ

@@ -1,7 +1,10 @@
 -- Each way through the records of expressions.
 use mathlib.Core.Path.{_≡_, refl, ap}
 use mathlib.Core.Bool.{Bool, true, false}
-use Prim.Native.Nat.{ℕ, zero, suc}
+use mathlib.Core.List.{[], _∷_}
+use Prim.Native.Nat.{ℕ, zero, suc, _+_, _<_, _≤_}
+use native.Mathlib.Omega.{arith}
+use lib.ListN.{List·getD-eq-default}
 use lib.Dec.{ltb}
 use borrow.Author.Tests.{eq-eqb, ne-eqb}
 use Rattle.cursor.specs.declared.State.{State}
@@ -19,6 +22,8 @@ use Rattle.parts.specs.declared.values.Called.{Called}
 use Rattle.parts.specs.declared.values.Expr.{Expr}
 use Rattle.parts.specs.declared.values.Expr.the-variants as exprs
 use Rattle.parts.specs.Forms as forms
+use Rattle.parts.specs.Members as members
+use Rattle.parts.specs.Members.{memberAt}
 use Rattle.parts.specs.Values.{linkOf, atomExpr, memberOf, uncounted}
 use Rattle.parts.specs.Records.{couple, rowRecord, listRecord, wrapped, blockRecord, fnRecord, functionRecord, handlerRecord, handlersFlagged, ifRecord, roundRecord, callRecord, memberRecord}
 
@@ -32,6 +37,24 @@ atom-name which link p = rw (eq-eqb _ _ p, atomExpr)
 
 pub atom-other : (which link : ℕ) → (which ≡ forms.Ident → ⊥) → atomExpr which link ≡ exprs.Other link
 atom-other which link p = rw (ne-eqb _ _ p, atomExpr)
+
+-- which member it is
+kinds-placed : (which : ℕ) → which ≤ 2 → (memberAt which false ≡ which) × (memberAt which true ≡ which + 3)
+kinds-placed zero h = (refl, refl)
+kinds-placed (suc zero) h = (refl, refl)
+kinds-placed (suc (suc zero)) h = (refl, refl)
+kinds-placed (suc (suc (suc which))) h = absurd (omega (arith, h))
+
+pub kind-none : (which : ℕ) (meta : Bool) → 2 < which → memberAt which meta ≡ 0
+kind-none which false h = List·getD-eq-default (members.Bracket ∷ members.Dot ∷ members.DoubleColon ∷ []) 0 h
+kind-none which true h = List·getD-eq-default (members.BracketMeta ∷ members.DotMeta ∷ members.DoubleColonMeta ∷ []) 0 h
+
+module _ (which : ℕ) {meta : Bool} (h : which ≤ 2) where
+  pub kind-meta : meta ≡ true → memberAt which meta ≡ which + 3
+  kind-meta p = rw p (kinds-placed which h .1)
+
+  pub kind-property : meta ≡ false → memberAt which meta ≡ which
+  kind-property p = rw p (kinds-placed which h .0)
 
 -- a member as an expression
 pub member-safe : (x : Expr) (link : ℕ) {safe : Ranged} {r : Span} → safe ≡ ranged.At r → memberOf x safe link ≡ exprs.Other link
@@ -128,11 +151,11 @@ module _ (s : State) (w : World) where
     unfolding callRecord
     call-on q = rw (← p) (rw (← f) (rw q))
 
-  module _ (from : ℕ) (safe : Ranged) (member : ℕ) (x : Expr) (link : ℕ) {table flags : ℕ} {one all : Kids} {w1 w2 : World} {mark : Span} {b : Bool} (t : table ≡ linkOf x) (p : done s w1 one ≡ add noKids table s w) (q : done s w2 all ≡ addSome one link s w1) (m : mark ≡ spanOf safe) (ended : b ≡ isEnded safe) (f : flags ≡ flagged member 0 b false) where
+  module _ (from : ℕ) (safe : Ranged) (member : ℕ) (x : Expr) (link : ℕ) {table which-kind flags : ℕ} {one all : Kids} {w1 w2 : World} {mark : Span} {b : Bool} (t : table ≡ linkOf x) (p : done s w1 one ≡ add noKids table s w) (q : done s w2 all ≡ addSome one link s w1) (m : mark ≡ spanOf safe) (n : which-kind ≡ member) (ended : b ≡ isEnded safe) (f : flags ≡ flagged which-kind 0 b false) where
     pub member-failed : {y : Stop} → close node.Member from (mark .start) (mark .end) flags (all .first) s w2 ≡ failed y → memberRecord from safe member x link s w ≡ failed y
     unfolding memberRecord
-    member-failed r = rw (← t, ← p) (rw (← q) (rw (← m, ← ended) (rw (← f) (rw r))))
+    member-failed r = rw (← t, ← p) (rw (← q) (rw (← m, ← n, ← ended) (rw (← f) (rw r))))
 
     pub member-on : {l : ℕ} {y : Expr} {s3 : State} {w3 : World} → close node.Member from (mark .start) (mark .end) flags (all .first) s w2 ≡ done s3 w3 l → y ≡ memberOf x safe l → memberRecord from safe member x link s w ≡ done s3 w3 (more y)
     unfolding memberRecord
-    member-on r y = rw (← t, ← p) (rw (← q) (rw (← m, ← ended) (rw (← f) (rw r (rw y)))))
+    member-on r y = rw (← t, ← p) (rw (← q) (rw (← m, ← n, ← ended) (rw (← f) (rw r (rw y)))))

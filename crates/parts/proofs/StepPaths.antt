@@ -22,7 +22,7 @@ use Rattle.cursor.specs.Sheet.{Sheet, kindAt, rangeAt}
 use Rattle.cursor.specs.Rule.{World, Stop, fault, done, failed, Rule, more, stop, iterate}
 use Rattle.cursor.specs.Tokens.{bump}
 use Rattle.cursor.specs.Checks.{check, eat, expect, unexpectedAt, unexpected}
-use Rattle.cursor.specs.Records.{noLink, append, add, noKids}
+use Rattle.cursor.specs.Records.{append, add, noKids}
 use Rattle.types.specs.Lits.{lit, ident}
 use Rattle.types.specs.Items.{close, isEnded}
 use Rattle.types.specs.Types.{params, closureParams}
@@ -32,11 +32,8 @@ use Rattle.parts.specs.declared.values.Expr.the-variants as exprs
 use Rattle.parts.specs.declared.values.AssignLeft.the-variants as assigns
 use Rattle.parts.specs.declared.steps.Checked.the-variants as checked
 use Rattle.parts.specs.Forms as forms
-use Rattle.parts.specs.Members as members
-use Rattle.parts.specs.Members.{namedAt, metaAt}
 use Rattle.parts.specs.Values.{linkOf, toAssignLeft}
-use Rattle.parts.specs.Records.{memberRecord}
-use Rattle.parts.specs.Steps.{operatorOf, itemsEnd, checkedType, anyParams, braced, noMember, metaMember, nameMember, litKey, parenKeyAt, parenKey, leaf, nameTurn, names, loopNames, patternTurn, casePatterns, typeChecked, typeCheckAt, typeCheck}
+use Rattle.parts.specs.Steps.{operatorOf, itemsEnd, checkedType, anyParams, braced, noMember, pound, metaEnd, litKey, parenKeyAt, parenKey, leaf, nameTurn, names, loopNames, patternTurn, casePatterns, typeChecked, typeCheckAt, typeCheck}
 
 -- what may be assigned to
 pub assign-name : {x : Expr} {link : ℕ} → x ≡ exprs.Name link → toAssignLeft x ≡ assigns.To link
@@ -71,24 +68,6 @@ module _ (k : ℕ) where
   pub end-properties : (k ≡ 0 → ⊥) → (k ≡ 1 → ⊥) → itemsEnd k ≡ kind.CloseBrace
   unfolding itemsEnd
   end-properties p q = rw (ne-eqb _ _ p, itemsEnd) (rw (ne-eqb _ _ q))
-
--- which member stands behind an opening token with a name or `#`
-module _ (which : ℕ) where
-  pub named-dot : which ≡ 1 → namedAt which ≡ members.Dot
-  unfolding namedAt
-  named-dot p = rw (eq-eqb _ _ p, namedAt)
-
-  pub named-colons : (which ≡ 1 → ⊥) → namedAt which ≡ members.DoubleColon
-  unfolding namedAt
-  named-colons p = rw (ne-eqb _ _ p, namedAt)
-
-  pub meta-dot : which ≡ 1 → metaAt which ≡ members.DotMeta
-  unfolding metaAt
-  meta-dot p = rw (eq-eqb _ _ p, metaAt)
-
-  pub meta-colons : (which ≡ 1 → ⊥) → metaAt which ≡ members.DoubleColonMeta
-  unfolding metaAt
-  meta-colons p = rw (ne-eqb _ _ p, metaAt)
 
 -- the type that a token names after `is`
 module _ (text : List ℕ) (k : ℕ) (r : Span) where
@@ -140,28 +119,30 @@ module _ (e : Sheet) (s : State) (w : World) where
     unfolding noMember
     member-stop q = rw (← p) (rw q)
 
-  -- a member behind its `#`, and one whose property is a name
-  module _ (from : ℕ) (safe : Ranged) (x : Expr) (which : ℕ) where
-    pub meta-bare : {m : ℕ} → 0 < which → m ≡ metaAt which → metaMember e from safe x which s w ≡ memberRecord from safe m x noLink s w
-    unfolding metaMember
-    meta-bare p m = rw (lt-ltb _ _ p, m, metaMember)
+  -- a member's opening token, and the `#` behind it
+  pub pound-spent : {x : Stop} → bump e s w ≡ failed x → pound e s w ≡ failed x
+  unfolding pound
+  pound-spent p = rw p
+
+  module _ {s1 : State} {w1 : World} (p : bump e s w ≡ done s1 w1 tt) where
+    pub pound-is : pound e s w ≡ eat e kind.Pound s1 w1
+    unfolding pound
+    pound-is = rw p
+
+  -- behind the `#` of a meta member
+  module _ (which : ℕ) where
+    pub meta-bare : 0 < which → metaEnd e which s w ≡ done s w 0
+    unfolding metaEnd
+    meta-bare p = rw (lt-ltb _ _ p, metaEnd)
 
     module _ (n : which ≤ 0) where
-      pub meta-open : {y : Stop} → expect e kind.CloseBracket s w ≡ failed y → metaMember e from safe x which s w ≡ failed y
-      unfolding metaMember
-      meta-open p = rw (le-ltb _ _ n, metaMember) (rw p)
+      pub meta-open : {x : Stop} → expect e kind.CloseBracket s w ≡ failed x → metaEnd e which s w ≡ failed x
+      unfolding metaEnd
+      meta-open p = rw (le-ltb _ _ n, metaEnd) (rw p)
 
-      pub meta-closed : {s1 : State} {w1 : World} → expect e kind.CloseBracket s w ≡ done s1 w1 tt → metaMember e from safe x which s w ≡ memberRecord from safe members.BracketMeta x noLink s1 w1
-      unfolding metaMember
-      meta-closed p = rw (le-ltb _ _ n, metaMember) (rw p)
-
-    pub named-failed : {y : Stop} → ident e s w ≡ failed y → nameMember e from safe x which s w ≡ failed y
-    unfolding nameMember
-    named-failed p = rw p
-
-    pub named-on : {m link : ℕ} {s1 : State} {w1 : World} → ident e s w ≡ done s1 w1 link → m ≡ namedAt which → nameMember e from safe x which s w ≡ memberRecord from safe m x link s1 w1
-    unfolding nameMember
-    named-on p m = rw p (rw m)
+      pub meta-closed : {s1 : State} {w1 : World} → expect e kind.CloseBracket s w ≡ done s1 w1 tt → metaEnd e which s w ≡ done s1 w1 0
+      unfolding metaEnd
+      meta-closed p = rw (le-ltb _ _ n, metaEnd) (rw p)
 
   -- a literal as a table's key
   pub lit-key-failed : {x : Stop} → lit e s w ≡ failed x → litKey e s w ≡ failed x

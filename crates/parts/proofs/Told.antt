@@ -1,6 +1,7 @@
 -- What each answer of this crate stands for determines it (cursor's Told).
 -- Assumes nothing.
 use mathlib.Core.Path.{_≡_, refl, ap}
+use mathlib.Core.Bool.{Bool}
 use Rattle.cursor.specs.declared.Kids.{Kids}
 use Rattle.cursor.specs.declared.Ranged.{Ranged}
 use Rattle.cursor.specs.Rule.{World, Out, done, failed, Next, more, stop}
@@ -16,10 +17,12 @@ use Rattle.parts.specs.declared.values.Rowed.{Rowed}
 use Rattle.parts.specs.declared.values.Rowed.the-variants as rows
 use Rattle.parts.specs.declared.steps.Asked.{Asked}
 use Rattle.parts.specs.declared.steps.Asked.the-variants as asks
+use Rattle.parts.specs.declared.steps.Pounded.{Pounded}
+use Rattle.parts.specs.declared.steps.Pounded.the-variants as pounds
 use Rattle.parts.specs.declared.imports.Imported.{Imported}
 use Rattle.parts.specs.declared.imports.Along.{Along}
 use Rattle.parts.specs.declared.imports.Along.the-variants as alongs
-use Rattle.parts.specs.Answers.{asParsed, asChained, asRowed, asKidsTurned, asAsked, asAlong}
+use Rattle.parts.specs.Answers.{asParsed, asChained, asRowed, asKidsTurned, asAsked, asPounded, asAlong}
 
 pub parsed : Told asParsed
 parsed = record { back = back; answer = answer; buffers = buffers }
@@ -120,3 +123,18 @@ along = record { back = back; answer = answer; buffers = buffers }
     buffers (alongs.More s kids) d w h = refl
     buffers (alongs.Done s i) d w h = refl
     buffers (alongs.Failed f) d w h = lost (Next Imported) f d w h
+
+pub pounded : Told asPounded
+pounded = record { back = back; answer = answer; buffers = buffers }
+  where
+    back : Out Bool → Pounded
+    back (done s w b) = pounds.Mark s b
+    back (failed x) = pounds.Failed (backStop x)
+
+    answer : (r : Pounded) (w : World) → back (asPounded r w) ≡ r
+    answer (pounds.Mark s b) w = refl
+    answer (pounds.Failed f) w = ap pounds.Failed (failure f w)
+
+    buffers : (r : Pounded) (d w : World) → Settled (asPounded r w) → heldBy d (asPounded r w) ≡ w
+    buffers (pounds.Mark s b) d w h = refl
+    buffers (pounds.Failed f) d w h = lost Bool f d w h

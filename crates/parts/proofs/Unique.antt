@@ -12,8 +12,8 @@ use Rattle.cursor.specs.Answers.{asTest, asBuilt}
 use Rattle.cursor.proofs.Told.{Settled, heldBy, Told, one, moved, tested, built}
 use Rattle.types.specs.Answers.{asListed}
 use Rattle.types.proofs.Unique.{listed}
-use Rattle.parts.specs.Answers.{asChained, asRowed, asKidsTurned, asAsked}
-use Rattle.parts.proofs.Told.{chained, rowed, kidsTurned, asked}
+use Rattle.parts.specs.Answers.{asChained, asRowed, asKidsTurned, asAsked, asPounded}
+use Rattle.parts.proofs.Told.{chained, rowed, kidsTurned, asked, pounded}
 use Rattle.parts.proofs.effects.effect_stmt.Reads as effect-stmt
 use Rattle.parts.proofs.imports.import_stmt.Reads as import-stmt
 use Rattle.parts.proofs.records.atom_expr.Reads as atom-expr
@@ -39,8 +39,8 @@ use Rattle.parts.proofs.steps.any_params.Reads as any-params
 use Rattle.parts.proofs.steps.braced.Reads as braced
 use Rattle.parts.proofs.steps.question.Reads as question
 use Rattle.parts.proofs.steps.no_member.Reads as no-member
-use Rattle.parts.proofs.steps.meta_member.Reads as meta-member
-use Rattle.parts.proofs.steps.name_member.Reads as name-member
+use Rattle.parts.proofs.steps.pound.Reads as pound
+use Rattle.parts.proofs.steps.meta_end.Reads as meta-end
 use Rattle.parts.proofs.steps.items_end.Reads as items-end
 use Rattle.parts.proofs.steps.operator_of.Reads as operator-of
 use Rattle.parts.proofs.steps.lit_key.Reads as lit-key
@@ -168,11 +168,11 @@ one-braced = rule tested (λ _ _ _ _ p. p [] any [] [] [])
 pub one-question : OneEnd question.Post asAsked (λ x. held [] (x .1 .0 .now))
 one-question = rule asked (λ _ _ _ _ p. p [] [] [] [])
 
-pub one-meta-member : OneEnd meta-member.Post asChained (λ x. held (x .1 .0 .now) (x .1 .1 .0 .now))
-one-meta-member = rule chained (λ _ _ _ _ p. p [] [] [])
+pub one-pound : OneEnd pound.Post asPounded (λ x. held [] (x .1 .0 .now))
+one-pound = rule pounded (λ _ _ _ _ p. p [] [] [] [])
 
-pub one-name-member : OneEnd name-member.Post asChained (λ x. held (x .1 .0 .now) (x .1 .1 .0 .now))
-one-name-member = rule chained (λ _ _ _ _ p. p [] [] [])
+pub one-meta-end : OneEnd meta-end.Post asBuilt (λ x. held [] (x .1 .0 .now))
+one-meta-end = rule built (λ _ _ _ _ p. p [] [] [] [])
 
 -- a rule on records and the live list
 pub one-import-stmt : OneEnd import-stmt.Post asBuilt (λ x. held (x .1 .0 .now) (x .1 .1 .0 .now))

@@ -1,5 +1,5 @@
 -- What the answers of this crate are as ends of rules.
-use mathlib.Core.Bool.{false}
+use mathlib.Core.Bool.{Bool, false}
 use Rattle.cursor.specs.declared.Kids.{Kids}
 use Rattle.cursor.specs.declared.Ranged.{Ranged}
 use Rattle.cursor.specs.Rule.{World, Out, done, failed, Next, more, stop}
@@ -15,6 +15,8 @@ use Rattle.parts.specs.declared.values.Rowed.{Rowed}
 use Rattle.parts.specs.declared.values.Rowed.the-variants as rowed
 use Rattle.parts.specs.declared.steps.Asked.{Asked}
 use Rattle.parts.specs.declared.steps.Asked.the-variants as asked
+use Rattle.parts.specs.declared.steps.Pounded.{Pounded}
+use Rattle.parts.specs.declared.steps.Pounded.the-variants as pounded
 use Rattle.parts.specs.declared.imports.Imported.{Imported}
 use Rattle.parts.specs.declared.imports.Along.{Along}
 use Rattle.parts.specs.declared.imports.Along.the-variants as along
@@ -41,6 +43,10 @@ asKidsTurned (turns.Failed f) w = failed (asStop f w)
 abbrev pub asAsked : Asked → World → Out Ranged
 asAsked (asked.Mark s r) w = done s w r
 asAsked (asked.Failed f) w = failed (asStop f w)
+
+abbrev pub asPounded : Pounded → World → Out Bool
+asPounded (pounded.Mark s b) w = done s w b
+asPounded (pounded.Failed f) w = failed (asStop f w)
 
 -- a path so far, with nothing imported yet
 abbrev pub onPath : Kids → Imported

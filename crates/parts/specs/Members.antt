@@ -1,7 +1,8 @@
 -- Rust's MemberKind as docs/LAYOUT.md numbers it: `[x]`, `.x` and `::x`, and the same with `#` for the property, which has no record.
 use Prim.Native.Nat.{ℕ}
-use lib.Dec.{eqb}
-use mathlib.Core.Bool.{cond}
+use mathlib.Core.List.{[], _∷_}
+use mathlib.Core.Bool.{Bool, true, false}
+use lib.ListN.{getD}
 
 abbrev pub Bracket : ℕ
 Bracket = 0
@@ -21,9 +22,7 @@ DotMeta = 4
 abbrev pub DoubleColonMeta : ℕ
 DoubleColonMeta = 5
 
--- for the code, which tells the opening token by its place among `[`, `.` and `::`: the member whose property is a name, and the one with `#`
-unfoldable pub namedAt : ℕ → ℕ
-namedAt which = cond (eqb which 1) Dot DoubleColon
-
-unfoldable pub metaAt : ℕ → ℕ
-metaAt which = cond (eqb which 1) DotMeta DoubleColonMeta
+-- for the code, by the place of the opening token among `[`, `.` and `::`, and by whether a `#` stands behind it
+abbrev pub memberAt : ℕ → Bool → ℕ
+memberAt which false = getD (Bracket ∷ Dot ∷ DoubleColon ∷ []) which 0
+memberAt which true = getD (BracketMeta ∷ DotMeta ∷ DoubleColonMeta ∷ []) which 0

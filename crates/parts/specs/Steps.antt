@@ -32,10 +32,7 @@ use Rattle.parts.specs.declared.values.Expr.the-variants as exprs
 use Rattle.parts.specs.declared.steps.Checked.{Checked}
 use Rattle.parts.specs.declared.steps.Checked.the-variants as checked
 use Rattle.parts.specs.Forms as forms
-use Rattle.parts.specs.Members as members
-use Rattle.parts.specs.Members.{namedAt, metaAt}
 use Rattle.parts.specs.Values.{linkOf}
-use Rattle.parts.specs.Records.{memberRecord}
 use Rattle.parts.specs.When.{when}
 
 -- an error that lists no expected kinds
@@ -93,16 +90,17 @@ module _ (e : Sheet) where
   unfoldable pub noMember : Ranged → Expr → Rule (Next Expr)
   noMember safe x = when (isEnded safe) (unexpected e) (give (stop x))
 
-  -- for the code, by the place of the opening token: a member behind its `#`, which has the bracket's end where it is one; and one whose property is a name
-  unfoldable pub metaMember : ℕ → Ranged → Expr → ℕ → Rule (Next Expr)
-  metaMember from safe x which = when (ltb 0 which) (memberRecord from safe (metaAt which) x noLink) (do
-    expect e kind.CloseBracket
-    memberRecord from safe members.BracketMeta x noLink)
+  -- a member's opening token, and whether a `#` stands behind it
+  unfoldable pub pound : Rule Bool
+  pound = do
+    bump e
+    eat e kind.Pound
 
-  unfoldable pub nameMember : ℕ → Ranged → Expr → ℕ → Rule (Next Expr)
-  nameMember from safe x which = do
-    link ← ident e
-    memberRecord from safe (namedAt which) x link
+  -- for the code, by the place of the opening token: behind the `#` of a meta member, the bracket's end, where it is one; it has no property
+  unfoldable pub metaEnd : ℕ → Rule ℕ
+  metaEnd which = when (ltb 0 which) (give noLink) (do
+    expect e kind.CloseBracket
+    give noLink)
 
   -- a literal as a table's key, and its colon
   unfoldable pub litKey : Rule ℕ

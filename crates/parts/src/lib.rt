@@ -2,7 +2,6 @@
 pub mod effects;
 pub mod forms;
 pub mod imports;
-pub mod members;
 pub mod records;
 pub mod recovery;
 pub mod steps;

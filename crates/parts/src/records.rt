@@ -7,6 +7,7 @@ ghost use Rattle.cursor.specs.Rule.{world, bind, done};
 ghost use Rattle.cursor.specs.Answers.{asBuilt};
 ghost use Rattle.types.specs.Answers.{asListed};
 ghost use Rattle.parts.specs.Answers.{asChained};
+ghost use Rattle.parts.specs.Members.{memberAt};
 ghost use Rattle.parts.specs.Values.{atomExpr, memberOf};
 ghost use Rattle.cursor.specs.Node as node;
 ghost use Rattle.cursor.specs.declared.Ranged.the-variants as ranged;
@@ -250,23 +251,24 @@ pub fn call_record(nodes: &mut [u32], s: State, from: u32, kids: Kids, lambda: u
     }
 }
 
-// A member of an expression, by the number of Rust's MemberKind; a meta member has no property. On a plain name and without `?` it may be
-// assigned to.
+// A member of an expression, by the place of its opening token and by whether it is a meta member, which has no property. On a plain name and
+// without `?` it may be assigned to.
 pub fn member_record(
     nodes: &mut [u32],
     s: State,
     from: u32,
     x: Expr,
     safe: Ranged,
-    member: u32,
+    which: usize,
+    meta: bool,
     link: u32,
 ) -> Chained
-    ensures { λ r. ⌜ ((e y l : List ℕ) → asChained r (world (now (nodes .exit)) e y l) ≡ memberRecord from safe member x link s (world (now (nodes .entry)) e y l)) ⌝ }
+    ensures { λ r. ⌜ ((e y l : List ℕ) → asChained r (world (now (nodes .exit)) e y l) ≡ memberRecord from safe (memberAt which meta) x link s (world (now (nodes .entry)) e y l)) ⌝ }
 {
     let one = add(nodes, NO_KIDS, link_of(x));
     let all = add_some(nodes, one, link);
     let mark = span_of(safe);
-    let flags = flagged(member, 0, is_ended(safe), false);
+    let flags = flagged(member_at(which, meta), 0, is_ended(safe), false);
     let built = close(
         nodes,
         s,
@@ -281,6 +283,20 @@ pub fn member_record(
         Built::Node(t, m) => Chained::More(t, member_of(x, safe, m)),
         Built::Failed(f) => Chained::Failed(f),
     }
+}
+
+// Rust's MemberKind, as docs/LAYOUT.md numbers it: the three meta ones stand behind the three others.
+fn member_at(which: usize, meta: bool) -> u32
+    ensures { λ r. ⌜ r ≡ memberAt which meta ⌝ }
+{
+    if 2 < which {
+        return 0;
+    }
+    let place = which as u32;
+    if meta {
+        return place + 3;
+    }
+    place
 }
 
 fn member_of(x: Expr, safe: Ranged, link: u32) -> Expr

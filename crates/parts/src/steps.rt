@@ -9,14 +9,11 @@ ghost use Rattle.cursor.specs.Rule.{World, world};
 ghost use Rattle.cursor.specs.Checks.{eatRange};
 ghost use Rattle.types.specs.Types.{atoms};
 ghost use Rattle.types.specs.Patterns.{patterns};
-ghost use Rattle.parts.specs.Members.{namedAt, metaAt};
-ghost use Rattle.parts.specs.Steps.{alone, anyParams, braced, noMember, metaMember, nameMember, itemsEnd, operatorOf, litKey, parenKey, leaf, names, loopNames, casePatterns, checkedType, typeCheck};
+ghost use Rattle.parts.specs.Steps.{alone, anyParams, braced, noMember, pound, metaEnd, itemsEnd, operatorOf, litKey, parenKey, leaf, names, loopNames, casePatterns, checkedType, typeCheck};
 ghost use Rattle.cursor.specs.Answers.{asTest, asBuilt};
 ghost use Rattle.types.specs.Answers.{asListed};
-ghost use Rattle.parts.specs.Answers.{asRowed, asChained, asAsked};
+ghost use Rattle.parts.specs.Answers.{asRowed, asChained, asAsked, asPounded};
 use crate::forms;
-use crate::members;
-use crate::records::member_record;
 use crate::values::Chained;
 use crate::values::Expr;
 use crate::values::Rowed;
@@ -65,6 +62,12 @@ pub const PROPERTIES: u32 = 2;
 // A `?` that may stand before a member, as a range.
 pub enum Asked {
     Mark(State, Ranged),
+    Failed(Failure),
+}
+
+// Whether a `#` stands behind a member's opening token.
+pub enum Pounded {
+    Mark(State, bool),
     Failed(Failure),
 }
 
@@ -136,68 +139,40 @@ pub fn no_member(tokens: &[u32], s: State, x: Expr, safe: Ranged) -> Chained
     Chained::Stop(s, x)
 }
 
-// A member behind its `#`, by the place of its opening token: it has the bracket's end, where it is one.
-pub fn meta_member(
+// A member's opening token, and whether a `#` stands behind it.
+pub fn pound(tokens: &[u32], live: &mut [u8; 1024], limits: Limits, s: State) -> Pounded
+    ensures { λ r. ⌜ ((y n e x : List ℕ) → asPounded r (world n e x (now (live .exit))) ≡ pound (sheet y (now (tokens .entry)) limits) s (world n e x (now (live .entry)))) ⌝ }
+{
+    let opened = bump(tokens, limits, s);
+    let s1 = match opened {
+        Moved::On(t) => t,
+        Moved::Failed(f) => return Pounded::Failed(f),
+    };
+    let meta = eat(tokens, live, limits, s1, kinds::POUND);
+    match meta {
+        Test::Yes(t) => Pounded::Mark(t, true),
+        Test::No(t) => Pounded::Mark(t, false),
+        Test::Failed(f) => Pounded::Failed(f),
+    }
+}
+
+// Behind the `#` of a meta member: the bracket's end, where it is one.
+pub fn meta_end(
     tokens: &[u32],
-    nodes: &mut [u32],
     live: &mut [u8; 1024],
     limits: Limits,
     s: State,
-    from: u32,
-    x: Expr,
-    safe: Ranged,
     which: usize,
-) -> Chained
-    ensures { λ r. ⌜ ((y e z : List ℕ) → asChained r (world (now (nodes .exit)) e z (now (live .exit))) ≡ metaMember (sheet y (now (tokens .entry)) limits) from safe x which s (world (now (nodes .entry)) e z (now (live .entry)))) ⌝ }
+) -> Built
+    ensures { λ r. ⌜ ((y n e x : List ℕ) → asBuilt r (world n e x (now (live .exit))) ≡ metaEnd (sheet y (now (tokens .entry)) limits) which s (world n e x (now (live .entry)))) ⌝ }
 {
     if 0 < which {
-        return member_record(nodes, s, from, x, safe, meta_at(which), 0);
+        return Built::Node(s, 0);
     }
     let closed = expect(tokens, live, limits, s, kinds::CLOSE_BRACKET);
     match closed {
-        Moved::On(t) => member_record(nodes, t, from, x, safe, members::BRACKET_META, 0),
-        Moved::Failed(f) => Chained::Failed(f),
-    }
-}
-
-// A member whose property is a name, by the place of its opening token.
-pub fn name_member(
-    tokens: &[u32],
-    nodes: &mut [u32],
-    live: &mut [u8; 1024],
-    limits: Limits,
-    s: State,
-    from: u32,
-    x: Expr,
-    safe: Ranged,
-    which: usize,
-) -> Chained
-    ensures { λ r. ⌜ ((y e z : List ℕ) → asChained r (world (now (nodes .exit)) e z (now (live .exit))) ≡ nameMember (sheet y (now (tokens .entry)) limits) from safe x which s (world (now (nodes .entry)) e z (now (live .entry)))) ⌝ }
-{
-    let read = ident(tokens, nodes, live, limits, s);
-    match read {
-        Built::Node(t, link) => member_record(nodes, t, from, x, safe, named_at(which), link),
-        Built::Failed(f) => Chained::Failed(f),
-    }
-}
-
-fn named_at(which: usize) -> u32
-    ensures { λ r. ⌜ r ≡ namedAt which ⌝ }
-{
-    if which == 1 {
-        members::DOT
-    } else {
-        members::DOUBLE_COLON
-    }
-}
-
-fn meta_at(which: usize) -> u32
-    ensures { λ r. ⌜ r ≡ metaAt which ⌝ }
-{
-    if which == 1 {
-        members::DOT_META
-    } else {
-        members::DOUBLE_COLON_META
+        Moved::On(t) => Built::Node(t, 0),
+        Moved::Failed(f) => Built::Failed(f),
     }
 }
 

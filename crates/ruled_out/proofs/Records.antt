@@ -198,11 +198,11 @@ unfolding callRecord addSome close append
 call-record-as-another-expression κs x p = apart (answer turnedTo) (p [] [] []) refl
 
 -- `a?.b`
-pub member-record-safe-and-assigned-to : (κs : _) (x : _) → member-record.Post κs (room, (built 2, (0, (sorts.Name 1, (ranged.At (span 1 2), (members.Dot, (2, tt))))))) (chained.More (built 3) (sorts.NameMember 3)) x → ⊥
+pub member-record-safe-and-assigned-to : (κs : _) (x : _) → member-record.Post κs (room, (built 2, (0, (sorts.Name 1, (ranged.At (span 1 2), (1, (false, (2, tt)))))))) (chained.More (built 3) (sorts.NameMember 3)) x → ⊥
 unfolding memberRecord addSome close add append put
 member-record-safe-and-assigned-to κs x p = apart (answer turnedTo) (p [] [] []) refl
 
 -- `a.#`
-pub member-record-meta-as-plain : (κs : _) (x : _) → member-record.Post κs (room, (built 1, (0, (sorts.Name 1, (ranged.Nowhere, (members.DotMeta, (0, tt))))))) (chained.More (built 2) (sorts.NameMember 2)) x → getD (x .0 .now) (cell 1 FLAGS) 0 ≡ members.Dot → ⊥
+pub member-record-meta-as-plain : (κs : _) (x : _) → member-record.Post κs (room, (built 1, (0, (sorts.Name 1, (ranged.Nowhere, (1, (true, (0, tt)))))))) (chained.More (built 2) (sorts.NameMember 2)) x → getD (x .0 .now) (cell 1 FLAGS) 0 ≡ members.Dot → ⊥
 unfolding memberRecord addSome close add append write put
 member-record-meta-as-plain κs x p h = unlike (word (cell 1 FLAGS)) (p [] [] []) h refl

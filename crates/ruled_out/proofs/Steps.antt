@@ -31,17 +31,16 @@ use Rattle.parts.specs.declared.values.Expr.the-variants as sorts
 use Rattle.parts.specs.declared.values.Chained.the-variants as chained
 use Rattle.parts.specs.declared.values.Rowed.the-variants as rowed
 use Rattle.parts.specs.declared.steps.Asked.the-variants as asked
-use Rattle.parts.specs.Members as members
-use Rattle.parts.specs.Members.{namedAt, metaAt}
+use Rattle.parts.specs.declared.steps.Pounded.the-variants as pounded
 use Rattle.parts.specs.Records.{memberRecord}
-use Rattle.parts.specs.Steps.{itemsEnd, checkedType, anyParams, braced, noMember, metaMember, nameMember, litKey, parenKeyAt, parenKey, leaf, nameTurn, names, loopNames, patternTurn, casePatterns, typeChecked, typeCheckAt, typeCheck}
+use Rattle.parts.specs.Steps.{itemsEnd, checkedType, anyParams, braced, noMember, pound, metaEnd, litKey, parenKeyAt, parenKey, leaf, nameTurn, names, loopNames, patternTurn, casePatterns, typeChecked, typeCheckAt, typeCheck}
 use Rattle.parts.proofs.steps.alone.Reads as fault-alone
 use Rattle.parts.proofs.steps.any_params.Reads as any-params
 use Rattle.parts.proofs.steps.braced.Reads as is-braced
 use Rattle.parts.proofs.steps.question.Reads as question
 use Rattle.parts.proofs.steps.no_member.Reads as no-member
-use Rattle.parts.proofs.steps.meta_member.Reads as meta-member
-use Rattle.parts.proofs.steps.name_member.Reads as name-member
+use Rattle.parts.proofs.steps.pound.Reads as pound-read
+use Rattle.parts.proofs.steps.meta_end.Reads as meta-end
 use Rattle.parts.proofs.steps.items_end.Reads as items-end
 use Rattle.parts.proofs.steps.operator_of.Reads as operator-of
 use Rattle.parts.proofs.steps.lit_key.Reads as lit-key
@@ -122,32 +121,22 @@ pub no-member-always-an-error : (κs : _) (x : _) → no-member.Post κs (blank,
 unfolding noMember
 no-member-always-an-error κs x p = apart ended (p [] limits (world [] [] [] [])) refl
 
--- the end of the bracket, behind `[#`
-pub meta-member-without-its-bracket :
-    (κs : _) (x : _) →
-    meta-member.Post κs (lent (token kind.Ident), (room, (blank, (limits, (state 0 0 0 1 0, (0, (sorts.Name 1, (ranged.Nowhere, (0, tt))))))))) (chained.More (state 0 0 0 2 0) (sorts.NameMember 2)) x → ⊥
-unfolding metaMember expect unexpected eat check want kindAt count
-meta-member-without-its-bracket κs x p = apart ended (p [] [] []) refl
+-- `#`, behind a member's opening token
+pub pound-not-taken : (κs : _) (x : _) → pound-read.Post κs (lent (two kind.Dot kind.Pound), (blank, (limits, (begin, tt)))) (pounded.Mark (state 1 1 1 0 0) true) x → ⊥
+unfolding pound eat check bump pastTrivia pastFrom isTrivia kindAt rangeAt count
+pound-not-taken κs x p = apart (λ o. left o .at) (p [] [] [] []) refl
 
--- `a.#` with the kind of `a.b`
-pub meta-member-as-plain :
-    (κs : _) (x : _) →
-    meta-member.Post κs (blank, (room, (blank, (limits, (state 0 0 0 1 0, (0, (sorts.Name 1, (ranged.Nowhere, (1, tt))))))))) (chained.More (state 0 0 0 2 0) (sorts.NameMember 2)) x → getD (x .1 .0 .now) (cell 1 FLAGS) 0 ≡ members.Dot → ⊥
-unfolding metaMember metaAt memberRecord addSome close add put append write
-meta-member-as-plain κs x p h = unlike (word (cell 1 FLAGS)) (p [] [] []) h refl
+pub pound-left-out : (κs : _) (x : _) → pound-read.Post κs (lent (two kind.Dot kind.Pound), (blank, (limits, (begin, tt)))) (pounded.Mark (state 2 2 2 0 0) false) x → ⊥
+unfolding pound eat check bump pastTrivia pastFrom isTrivia kindAt rangeAt count
+pound-left-out κs x p = apart (answer bit) (p [] [] [] []) refl
 
--- `b`, behind `a.`
-pub name-member-dot-as-double-colon :
-    (κs : _) (x : _) →
-    name-member.Post κs (lent (token kind.Ident), (room, (blank, (limits, (state 0 0 0 1 0, (0, (sorts.Name 1, (ranged.Nowhere, (1, tt))))))))) (chained.More (state 1 1 1 3 0) (sorts.NameMember 3)) x → getD (x .1 .0 .now) (cell 2 FLAGS) 0 ≡ members.DoubleColon → ⊥
-unfolding nameMember namedAt memberRecord ident identAt expect eat check bump kindAt rangeAt count addSome close add put append write
-name-member-dot-as-double-colon κs x p h = unlike (word (cell 2 FLAGS)) (p [] [] []) h refl
+pub meta-end-without-its-bracket : (κs : _) (x : _) → meta-end.Post κs (lent (token kind.Ident), (blank, (limits, (begin, (0, tt))))) (builds.Node begin 0) x → ⊥
+unfolding metaEnd expect unexpected eat check want kindAt count
+meta-end-without-its-bracket κs x p = apart ended (p [] [] [] []) refl
 
-pub name-member-property-left-out :
-    (κs : _) (x : _) →
-    name-member.Post κs (lent (token kind.Ident), (room, (blank, (limits, (state 0 0 0 1 0, (0, (sorts.Name 1, (ranged.Nowhere, (1, tt))))))))) (chained.More (state 1 1 1 3 0) (sorts.NameMember 3)) x → getD (x .1 .0 .now) (cell 0 NEXT) 0 ≡ 0 → ⊥
-unfolding nameMember namedAt memberRecord ident identAt expect eat check bump kindAt rangeAt count addSome close add put append write
-name-member-property-left-out κs x p h = unlike (word (cell 0 NEXT)) (p [] [] []) h refl
+pub meta-end-with-a-property : (κs : _) (x : _) → meta-end.Post κs (blank, (blank, (limits, (begin, (1, tt))))) (builds.Node begin 1) x → ⊥
+unfolding metaEnd
+meta-end-with-a-property κs x p = apart (answer itself) (p [] [] [] []) refl
 
 -- keys
 

@@ -14,28 +14,29 @@ use Rattle.cursor.specs.declared.Ranged.{Ranged}
 use Rattle.cursor.specs.declared.Ranged.the-variants as ranged
 use Rattle.cursor.specs.Node as node
 use Rattle.cursor.specs.Sheet.{rangeAt}
-use Rattle.cursor.specs.Rule.{World, Out, done, failed, Rule, bind, _>>=_, _>>_, give, Next}
+use Rattle.cursor.specs.Rule.{World, Out, done, failed, Rule, bind, _>>=_, _>>_, give, ifSo, Next}
 use Rattle.cursor.specs.Tokens.{bump}
-use Rattle.cursor.specs.Checks.{expect, eatRange, pick}
+use Rattle.cursor.specs.Checks.{eat, expect, eatRange, pick}
 use Rattle.cursor.specs.Records.{noLink, flagged}
 use Rattle.cursor.proofs.Chosen.{caseAt, chosen}
-use Rattle.types.specs.Lits.{lit}
+use Rattle.types.specs.Lits.{lit, ident}
 use Rattle.types.specs.Items.{start, close, over}
 use Rattle.parts.specs.declared.values.Expr.{Expr}
 use Rattle.parts.specs.Forms as forms
-use Rattle.parts.specs.Members.{namedAt, metaAt}
+use Rattle.parts.specs.Members as members
+use Rattle.parts.specs.Members.{memberAt}
 use Rattle.parts.specs.Values.{linkOf, atomExpr}
 use Rattle.parts.specs.When.{when}
-use Rattle.parts.specs.Records.{fnRecord, roundRecord}
-use Rattle.parts.specs.Steps.{noMember, metaMember, nameMember, leaf, names, loopNames}
+use Rattle.parts.specs.Records.{fnRecord, roundRecord, memberRecord}
+use Rattle.parts.specs.Steps.{noMember, pound, metaEnd, leaf, names, loopNames}
 use Rattle.parts.specs.Effects.{effectStmt}
 use Rattle.parts.specs.Imports.{importStmt}
-use Rattle.rules.specs.Inner.{Inner}
+use Rattle.rules.specs.Inner.{Inner, expr}
 use Rattle.rules.specs.Blocks.{block, exprAndBlock}
 use Rattle.rules.specs.Functions.{function, namedFunction}
 use Rattle.rules.specs.Primary.{bracketMember, dotMember, doubleColonMember, memberCases, access}
 use Rattle.rules.specs.Atoms.{parenExpr, listExpr, returnExpr, fnExpr, closureExpr, doExpr, loopExpr, whileExpr, forExpr, breakExpr, continueExpr, other, atomCases, atom, primary}
-use Rattle.rules.specs.Placed.{member, group, doFunction, anonFunction, anon, loops, form}
+use Rattle.rules.specs.Placed.{memberProperty, group, doFunction, anonFunction, anon, loops, form}
 use Rattle.rules.specs.Precedence.{unaryOp, tried, unaryCases, unary}
 use Rattle.rules.specs.Statements.{multi, typedAssign, set, signCases, assign, gloAssign, gloCases, glo, stmtCases, plain}
 
@@ -49,17 +50,54 @@ module _ (r : Inner) where
   abbrev pub memberChain : List ℕ
   memberChain = kind.OpenBracket ∷ kind.Dot ∷ kind.DoubleColon ∷ []
 
+  -- behind the opening token: the `#` or the property, and the record
+  abbrev pub behindBy : ℕ → Expr → Ranged → ℕ → Bool → Rule (Next Expr)
+  behindBy from x safe which meta = memberProperty r which meta >>= (λ link. memberRecord from safe (memberAt which meta) x link)
+
   abbrev pub memberBy : ℕ → Expr → Ranged → ℕ → Rule (Next Expr)
-  memberBy from x safe which = when (ltb 2 which) (noMember (r .sheet) safe x) (member r from safe x which)
+  memberBy from x safe which = when (ltb 2 which) (noMember (r .sheet) safe x) (pound (r .sheet) >>= behindBy from x safe which)
+
+  module _ (from : ℕ) (x : Expr) (safe : Ranged) where
+    -- a member whose ways behind the `#` are those of a place
+    opened : (which : ℕ) {k : Bool → Rule (Next Expr)} → ((b : Bool) (s : State) (w : World) → k b s w ≡ behindBy from x safe which b s w) → (s : State) (w : World)
+        → (bump (r .sheet) >> (eat (r .sheet) kind.Pound >>= k)) s w ≡ (pound (r .sheet) >>= behindBy from x safe which) s w
+    unfolding pound
+    opened which h s w = ap (λ k. (bump (r .sheet) >> (eat (r .sheet) kind.Pound >>= k)) s w) (fun-ext (λ b. fun-ext (λ s1. fun-ext (λ w1. h b s1 w1)))) ∙ joined (bump (r .sheet) s w) (λ _. eat (r .sheet) kind.Pound) (behindBy from x safe which)
+
+    bracket-placed : (s : State) (w : World) → bracketMember r from safe x s w ≡ (pound (r .sheet) >>= behindBy from x safe 0) s w
+    unfolding bracketMember memberProperty metaEnd
+    bracket-placed = opened 0 by
+      where
+        by : (b : Bool) (s : State) (w : World) → ifSo (expect (r .sheet) kind.CloseBracket >> memberRecord from safe members.BracketMeta x noLink) (expr r true >>= (λ link. expect (r .sheet) kind.CloseBracket >> memberRecord from safe members.Bracket x link)) b s w ≡ behindBy from x safe 0 b s w
+        by true s w = joined (expect (r .sheet) kind.CloseBracket s w) (λ _. give noLink) (λ link. memberRecord from safe members.BracketMeta x link)
+        by false s w =
+            ap (λ k. (expr r true >>= k) s w) (fun-ext (λ link. fun-ext (λ s1. fun-ext (λ w1. joined (expect (r .sheet) kind.CloseBracket s1 w1) (λ _. give link) (λ l. memberRecord from safe members.Bracket x l)))))
+            ∙ joined (expr r true s w) (λ link. expect (r .sheet) kind.CloseBracket >> give link) (λ link. memberRecord from safe members.Bracket x link)
+
+    dot-placed : (s : State) (w : World) → dotMember r from safe x s w ≡ (pound (r .sheet) >>= behindBy from x safe 1) s w
+    unfolding dotMember memberProperty metaEnd
+    dot-placed = opened 1 by
+      where
+        by : (b : Bool) (s : State) (w : World) → ifSo (memberRecord from safe members.DotMeta x noLink) (ident (r .sheet) >>= (λ link. memberRecord from safe members.Dot x link)) b s w ≡ behindBy from x safe 1 b s w
+        by true s w = refl
+        by false s w = refl
+
+    double-colon-placed : (s : State) (w : World) → doubleColonMember r from safe x s w ≡ (pound (r .sheet) >>= behindBy from x safe 2) s w
+    unfolding doubleColonMember memberProperty metaEnd
+    double-colon-placed = opened 2 by
+      where
+        by : (b : Bool) (s : State) (w : World) → ifSo (memberRecord from safe members.DoubleColonMeta x noLink) (ident (r .sheet) >>= (λ link. memberRecord from safe members.DoubleColon x link)) b s w ≡ behindBy from x safe 2 b s w
+        by true s w = refl
+        by false s w = refl
 
   pub access-placed : (from : ℕ) (x : Expr) → access r from x ≡ (eatRange (r .sheet) kind.Question >>= (λ safe. pick (r .sheet) memberChain >>= memberBy from x safe))
-  unfolding access bracketMember dotMember doubleColonMember member metaMember nameMember namedAt metaAt
+  unfolding access
   access-placed from x = ap (λ k. eatRange (r .sheet) kind.Question >>= k) (fun-ext (λ safe. chosen (r .sheet) (noMember (r .sheet) safe x) (memberCases r from safe x) (by safe)))
     where
       by : (safe : Ranged) (i : ℕ) (s : State) (w : World) → caseAt (memberCases r from safe x) (noMember (r .sheet) safe x) i s w ≡ memberBy from x safe i s w
-      by safe zero s w = refl
-      by safe (suc zero) s w = refl
-      by safe (suc (suc zero)) s w = refl
+      by safe zero s w = bracket-placed from x safe s w
+      by safe (suc zero) s w = dot-placed from x safe s w
+      by safe (suc (suc zero)) s w = double-colon-placed from x safe s w
       by safe (suc (suc (suc i))) s w = rw (lt-ltb 2 (suc (suc (suc i))) (omega arith))
 
   -- unary forms

@@ -11,51 +11,43 @@ use Rattle.cursor.specs.Rule.{World, Stop, done, failed}
 use Rattle.cursor.specs.Tokens.{bump}
 use Rattle.cursor.specs.Checks.{eat, expect, eatRange, pick}
 use Rattle.types.specs.declared.items.Items.{Items}
+use Rattle.types.specs.Lits.{ident}
 use Rattle.parts.specs.declared.values.Expr.{Expr}
-use Rattle.parts.specs.Members as members
+use Rattle.parts.specs.Members.{memberAt}
 use Rattle.parts.specs.Values.{linkOf, rowOf}
 use Rattle.rules.specs.Inner.{Inner, expr}
 use Rattle.parts.specs.Records.{callRecord, memberRecord}
-use Rattle.parts.specs.Steps.{braced, noMember, metaMember, nameMember}
+use Rattle.parts.specs.Steps.{braced, noMember, pound, metaEnd}
 use Rattle.rules.specs.Blocks.{block}
 use Rattle.rules.specs.Tables.{itemsOf}
 use Rattle.rules.specs.Primary.{access, call, postfixTurn}
-use Rattle.rules.specs.Placed.{member}
+use Rattle.rules.specs.Placed.{memberProperty}
 use Rattle.rules.proofs.Placed.{memberChain, access-placed}
 
--- a member from its opening token on
-module _ (r : Inner) (from : ℕ) (safe : Ranged) (x : Expr) (which : ℕ) (s : State) (w : World) where
-  pub member-spent : {y : Stop} → bump (r .sheet) s w ≡ failed y → member r from safe x which s w ≡ failed y
-  unfolding member
-  member-spent p = rw p
+-- the property of a member
+module _ (r : Inner) (which : ℕ) {meta : Bool} (s : State) (w : World) where
+  pub property-meta : meta ≡ true → memberProperty r which meta s w ≡ metaEnd (r .sheet) which s w
+  unfolding memberProperty
+  property-meta m = rw m
 
-  module _ {s1 : State} {w1 : World} (p : bump (r .sheet) s w ≡ done s1 w1 tt) where
-    pub member-full : {y : Stop} → eat (r .sheet) kind.Pound s1 w1 ≡ failed y → member r from safe x which s w ≡ failed y
-    unfolding member
-    member-full q = rw p (rw q)
+  module _ (m : meta ≡ false) where
+    pub property-name : 0 < which → memberProperty r which meta s w ≡ ident (r .sheet) s w
+    unfolding memberProperty
+    property-name t = rw m (rw (lt-ltb _ _ t))
 
-    pub member-meta : {s2 : State} {w2 : World} → eat (r .sheet) kind.Pound s1 w1 ≡ done s2 w2 true → member r from safe x which s w ≡ metaMember (r .sheet) from safe x which s2 w2
-    unfolding member
-    member-meta q = rw p (rw q)
+    module _ (t : which ≤ 0) where
+      pub property-failed : {y : Stop} → expr r true s w ≡ failed y → memberProperty r which meta s w ≡ failed y
+      unfolding memberProperty
+      property-failed a = rw m (rw (le-ltb _ _ t) (rw a))
 
-    module _ {s2 : State} {w2 : World} (q : eat (r .sheet) kind.Pound s1 w1 ≡ done s2 w2 false) where
-      pub member-name : 0 < which → member r from safe x which s w ≡ nameMember (r .sheet) from safe x which s2 w2
-      unfolding member
-      member-name t = rw p (rw q (rw (lt-ltb _ _ t)))
+      module _ {link : ℕ} {s1 : State} {w1 : World} (a : expr r true s w ≡ done s1 w1 link) where
+        pub property-open : {y : Stop} → expect (r .sheet) kind.CloseBracket s1 w1 ≡ failed y → memberProperty r which meta s w ≡ failed y
+        unfolding memberProperty
+        property-open b = rw m (rw (le-ltb _ _ t) (rw a (rw b)))
 
-      module _ (t : which ≤ 0) where
-        pub member-failed : {y : Stop} → expr r true s2 w2 ≡ failed y → member r from safe x which s w ≡ failed y
-        unfolding member
-        member-failed a = rw p (rw q (rw (le-ltb _ _ t) (rw a)))
-
-        module _ {link : ℕ} {s3 : State} {w3 : World} (a : expr r true s2 w2 ≡ done s3 w3 link) where
-          pub member-open : {y : Stop} → expect (r .sheet) kind.CloseBracket s3 w3 ≡ failed y → member r from safe x which s w ≡ failed y
-          unfolding member
-          member-open b = rw p (rw q (rw (le-ltb _ _ t) (rw a (rw b))))
-
-          pub member-on : {s4 : State} {w4 : World} → expect (r .sheet) kind.CloseBracket s3 w3 ≡ done s4 w4 tt → member r from safe x which s w ≡ memberRecord from safe members.Bracket x link s4 w4
-          unfolding member
-          member-on b = rw p (rw q (rw (le-ltb _ _ t) (rw a (rw b))))
+        pub property-on : {s2 : State} {w2 : World} → expect (r .sheet) kind.CloseBracket s1 w1 ≡ done s2 w2 tt → memberProperty r which meta s w ≡ done s2 w2 link
+        unfolding memberProperty
+        property-on b = rw m (rw (le-ltb _ _ t) (rw a (rw b)))
 
 module _ (r : Inner) (from : ℕ) where
   -- a member, where one stands here
@@ -71,8 +63,16 @@ module _ (r : Inner) (from : ℕ) where
         pub access-none : 2 < which → access r from x s w ≡ noMember (r .sheet) safe x s2 w2
         access-none t = rw (access-placed r from x) (rw p (rw q (rw (lt-ltb _ _ t))))
 
-        pub access-on : which ≤ 2 → access r from x s w ≡ member r from safe x which s2 w2
-        access-on t = rw (access-placed r from x) (rw p (rw q (rw (le-ltb _ _ t))))
+        module _ (t : which ≤ 2) where
+          pub access-spent : {y : Stop} → pound (r .sheet) s2 w2 ≡ failed y → access r from x s w ≡ failed y
+          access-spent a = rw (access-placed r from x) (rw p (rw q (rw (le-ltb _ _ t) (rw a))))
+
+          module _ {meta : Bool} {s3 : State} {w3 : World} (a : pound (r .sheet) s2 w2 ≡ done s3 w3 meta) where
+            pub access-lost : {y : Stop} → memberProperty r which meta s3 w3 ≡ failed y → access r from x s w ≡ failed y
+            access-lost b = rw (access-placed r from x) (rw p (rw q (rw (le-ltb _ _ t) (rw a (rw b)))))
+
+            pub access-on : {link : ℕ} {s4 : State} {w4 : World} → memberProperty r which meta s3 w3 ≡ done s4 w4 link → access r from x s w ≡ memberRecord from safe (memberAt which meta) x link s4 w4
+            access-on b = rw (access-placed r from x) (rw p (rw q (rw (le-ltb _ _ t) (rw a (rw b)))))
 
   module _ (lambda : Bool) (x : Expr) (s : State) (w : World) where
     -- a call from behind its opening parenthesis on

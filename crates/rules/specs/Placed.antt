@@ -1,24 +1,21 @@
 -- The code's functions that are handed a place of a chain of checks, and no kind: what each reads. Several forms share one function there, and their steps. No
 -- rule goes by these; that they are the rules by kinds is in proofs/Placed.antt.
 use Prim.Native.Nat.{ℕ}
-use mathlib.Core.Bool.{true, false}
+use mathlib.Core.Bool.{Bool, true, false}
 use lib.Dec.{ltb, eqb}
 use Rattle.kinds.specs.Number as kind
-use Rattle.cursor.specs.declared.Ranged.{Ranged}
 use Rattle.cursor.specs.declared.Ranged.the-variants as ranged
 use Rattle.cursor.specs.Node as node
-use Rattle.cursor.specs.Rule.{Rule, _>>=_, _>>_, ifSo, Next}
+use Rattle.cursor.specs.Rule.{Rule, _>>=_, _>>_, give}
 use Rattle.cursor.specs.Tokens.{bump}
-use Rattle.cursor.specs.Checks.{eat, expect}
+use Rattle.cursor.specs.Checks.{expect}
 use Rattle.cursor.specs.Records.{noLink, noKids}
 use Rattle.types.specs.Lits.{lit, ident}
 use Rattle.types.specs.Items.{over}
-use Rattle.parts.specs.declared.values.Expr.{Expr}
 use Rattle.parts.specs.Forms as forms
-use Rattle.parts.specs.Members as members
 use Rattle.parts.specs.When.{when}
-use Rattle.parts.specs.Records.{listRecord, fnRecord, roundRecord, memberRecord}
-use Rattle.parts.specs.Steps.{Elements, leaf, loopNames, metaMember, nameMember}
+use Rattle.parts.specs.Records.{listRecord, fnRecord, roundRecord}
+use Rattle.parts.specs.Steps.{Elements, metaEnd, leaf, loopNames}
 use Rattle.rules.specs.Inner.{Inner, expr}
 use Rattle.rules.specs.Blocks.{block, exprAndBlock}
 use Rattle.rules.specs.Functions.{function}
@@ -26,16 +23,12 @@ use Rattle.rules.specs.Tables.{itemsOf, brace}
 use Rattle.rules.specs.Atoms.{ifExpr, matchExpr}
 
 module _ (r : Inner) where
-  -- a member by the place of its opening token among `[`, `.` and `::`
-  unfoldable pub member : ℕ → Ranged → Expr → ℕ → Rule (Next Expr)
-  member from safe x which = do
-    bump (r .sheet)
-    pound ← eat (r .sheet) kind.Pound
-    ifSo (metaMember (r .sheet) from safe x which)
-        (when (ltb 0 which) (nameMember (r .sheet) from safe x which) (do
-          link ← expr r true
-          expect (r .sheet) kind.CloseBracket
-          memberRecord from safe members.Bracket x link)) pound
+  -- the property of a member by the place of its opening token among `[`, `.` and `::`; none where it is a meta member
+  unfoldable pub memberProperty : ℕ → Bool → Rule ℕ
+  memberProperty which meta = when meta (metaEnd (r .sheet) which) (when (ltb 0 which) (ident (r .sheet)) (do
+    link ← expr r true
+    expect (r .sheet) kind.CloseBracket
+    give link))
 
   -- an expression in parentheses, a list, and `return` with its argument
   unfoldable pub group : ℕ → ℕ → Rule ℕ

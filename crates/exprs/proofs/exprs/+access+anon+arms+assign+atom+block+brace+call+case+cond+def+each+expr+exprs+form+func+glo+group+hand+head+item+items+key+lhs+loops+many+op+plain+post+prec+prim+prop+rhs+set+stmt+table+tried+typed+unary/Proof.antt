@@ -19,7 +19,7 @@ use Rattle.cursor.specs.Rule.{world, iterate, bind}
 use Rattle.cursor.specs.Answers.{asMoved, asTest, asEaten, asPicked, asBuilt}
 use Rattle.types.specs.Answers.{asListed, asTurned}
 use Rattle.types.specs.Items.{so}
-use Rattle.parts.specs.Answers.{asParsed, asChained, asRowed, asKidsTurned, asAsked}
+use Rattle.parts.specs.Answers.{asParsed, asChained, asRowed, asKidsTurned, asAsked, asPounded}
 use Rattle.rules.specs.Statements.{leftTurn, rightTurn}
 use Rattle.rules.specs.Exprs.{exprsTurn}
 use Rattle.rules.specs.Precedence.{infixTurn, handlerTurn}
@@ -39,123 +39,123 @@ use lib.ListN.{length}
 use Prim.Native.Nat.{ℕ, _<_}
 use borrow.Fn.Kinds.{In}
 use borrow.Fn.PlainCycle.{Measures, is, falls, and}
+use Rattle.exprs.proofs.exprs.access.Reads as access
+use Rattle.exprs.proofs.exprs.access.Kinds as access-kinds
+use Rattle.exprs.proofs.exprs.+access+anon+arms+assign+atom+block+brace+call+case+cond+def+each+expr+exprs+form+func+glo+group+hand+head+item+items+key+lhs+loops+many+op+plain+post+prec+prim+prop+rhs+set+stmt+table+tried+typed+unary.Lts-access as access-lts
 use Rattle.exprs.proofs.exprs.anon.Reads as anon
 use Rattle.exprs.proofs.exprs.anon.Kinds as anon-kinds
-use Rattle.exprs.proofs.exprs.+anon+arms+assign+atom+block+brace+call+case+cond+def+each+expr+exprs+form+func+glo+group+hand+head+item+items+key+lhs+loops+many+member+op+path+plain+post+prec+prim+rhs+set+stmt+table+tried+typed+unary.Lts-anon as anon-lts
+use Rattle.exprs.proofs.exprs.+access+anon+arms+assign+atom+block+brace+call+case+cond+def+each+expr+exprs+form+func+glo+group+hand+head+item+items+key+lhs+loops+many+op+plain+post+prec+prim+prop+rhs+set+stmt+table+tried+typed+unary.Lts-anon as anon-lts
 use Rattle.exprs.proofs.exprs.arms.Reads as arms
 use Rattle.exprs.proofs.exprs.arms.Kinds as arms-kinds
-use Rattle.exprs.proofs.exprs.+anon+arms+assign+atom+block+brace+call+case+cond+def+each+expr+exprs+form+func+glo+group+hand+head+item+items+key+lhs+loops+many+member+op+path+plain+post+prec+prim+rhs+set+stmt+table+tried+typed+unary.Lts-arms as arms-lts
+use Rattle.exprs.proofs.exprs.+access+anon+arms+assign+atom+block+brace+call+case+cond+def+each+expr+exprs+form+func+glo+group+hand+head+item+items+key+lhs+loops+many+op+plain+post+prec+prim+prop+rhs+set+stmt+table+tried+typed+unary.Lts-arms as arms-lts
 use Rattle.exprs.proofs.exprs.assign.Reads as assign
 use Rattle.exprs.proofs.exprs.assign.Kinds as assign-kinds
-use Rattle.exprs.proofs.exprs.+anon+arms+assign+atom+block+brace+call+case+cond+def+each+expr+exprs+form+func+glo+group+hand+head+item+items+key+lhs+loops+many+member+op+path+plain+post+prec+prim+rhs+set+stmt+table+tried+typed+unary.Lts-assign as assign-lts
+use Rattle.exprs.proofs.exprs.+access+anon+arms+assign+atom+block+brace+call+case+cond+def+each+expr+exprs+form+func+glo+group+hand+head+item+items+key+lhs+loops+many+op+plain+post+prec+prim+prop+rhs+set+stmt+table+tried+typed+unary.Lts-assign as assign-lts
 use Rattle.exprs.proofs.exprs.atom.Reads as atom
 use Rattle.exprs.proofs.exprs.atom.Kinds as atom-kinds
-use Rattle.exprs.proofs.exprs.+anon+arms+assign+atom+block+brace+call+case+cond+def+each+expr+exprs+form+func+glo+group+hand+head+item+items+key+lhs+loops+many+member+op+path+plain+post+prec+prim+rhs+set+stmt+table+tried+typed+unary.Lts-atom as atom-lts
+use Rattle.exprs.proofs.exprs.+access+anon+arms+assign+atom+block+brace+call+case+cond+def+each+expr+exprs+form+func+glo+group+hand+head+item+items+key+lhs+loops+many+op+plain+post+prec+prim+prop+rhs+set+stmt+table+tried+typed+unary.Lts-atom as atom-lts
 use Rattle.exprs.proofs.exprs.block.Reads as block
 use Rattle.exprs.proofs.exprs.block.Kinds as block-kinds
-use Rattle.exprs.proofs.exprs.+anon+arms+assign+atom+block+brace+call+case+cond+def+each+expr+exprs+form+func+glo+group+hand+head+item+items+key+lhs+loops+many+member+op+path+plain+post+prec+prim+rhs+set+stmt+table+tried+typed+unary.Lts-block as block-lts
+use Rattle.exprs.proofs.exprs.+access+anon+arms+assign+atom+block+brace+call+case+cond+def+each+expr+exprs+form+func+glo+group+hand+head+item+items+key+lhs+loops+many+op+plain+post+prec+prim+prop+rhs+set+stmt+table+tried+typed+unary.Lts-block as block-lts
 use Rattle.exprs.proofs.exprs.brace.Reads as brace
 use Rattle.exprs.proofs.exprs.brace.Kinds as brace-kinds
-use Rattle.exprs.proofs.exprs.+anon+arms+assign+atom+block+brace+call+case+cond+def+each+expr+exprs+form+func+glo+group+hand+head+item+items+key+lhs+loops+many+member+op+path+plain+post+prec+prim+rhs+set+stmt+table+tried+typed+unary.Lts-brace as brace-lts
+use Rattle.exprs.proofs.exprs.+access+anon+arms+assign+atom+block+brace+call+case+cond+def+each+expr+exprs+form+func+glo+group+hand+head+item+items+key+lhs+loops+many+op+plain+post+prec+prim+prop+rhs+set+stmt+table+tried+typed+unary.Lts-brace as brace-lts
 use Rattle.exprs.proofs.exprs.call.Reads as call
 use Rattle.exprs.proofs.exprs.call.Kinds as call-kinds
-use Rattle.exprs.proofs.exprs.+anon+arms+assign+atom+block+brace+call+case+cond+def+each+expr+exprs+form+func+glo+group+hand+head+item+items+key+lhs+loops+many+member+op+path+plain+post+prec+prim+rhs+set+stmt+table+tried+typed+unary.Lts-call as call-lts
+use Rattle.exprs.proofs.exprs.+access+anon+arms+assign+atom+block+brace+call+case+cond+def+each+expr+exprs+form+func+glo+group+hand+head+item+items+key+lhs+loops+many+op+plain+post+prec+prim+prop+rhs+set+stmt+table+tried+typed+unary.Lts-call as call-lts
 use Rattle.exprs.proofs.exprs.case.Reads as case
 use Rattle.exprs.proofs.exprs.case.Kinds as case-kinds
-use Rattle.exprs.proofs.exprs.+anon+arms+assign+atom+block+brace+call+case+cond+def+each+expr+exprs+form+func+glo+group+hand+head+item+items+key+lhs+loops+many+member+op+path+plain+post+prec+prim+rhs+set+stmt+table+tried+typed+unary.Lts-case as case-lts
+use Rattle.exprs.proofs.exprs.+access+anon+arms+assign+atom+block+brace+call+case+cond+def+each+expr+exprs+form+func+glo+group+hand+head+item+items+key+lhs+loops+many+op+plain+post+prec+prim+prop+rhs+set+stmt+table+tried+typed+unary.Lts-case as case-lts
 use Rattle.exprs.proofs.exprs.cond.Reads as cond
 use Rattle.exprs.proofs.exprs.cond.Kinds as cond-kinds
-use Rattle.exprs.proofs.exprs.+anon+arms+assign+atom+block+brace+call+case+cond+def+each+expr+exprs+form+func+glo+group+hand+head+item+items+key+lhs+loops+many+member+op+path+plain+post+prec+prim+rhs+set+stmt+table+tried+typed+unary.Lts-cond as cond-lts
+use Rattle.exprs.proofs.exprs.+access+anon+arms+assign+atom+block+brace+call+case+cond+def+each+expr+exprs+form+func+glo+group+hand+head+item+items+key+lhs+loops+many+op+plain+post+prec+prim+prop+rhs+set+stmt+table+tried+typed+unary.Lts-cond as cond-lts
 use Rattle.exprs.proofs.exprs.def.Reads as def
 use Rattle.exprs.proofs.exprs.def.Kinds as def-kinds
-use Rattle.exprs.proofs.exprs.+anon+arms+assign+atom+block+brace+call+case+cond+def+each+expr+exprs+form+func+glo+group+hand+head+item+items+key+lhs+loops+many+member+op+path+plain+post+prec+prim+rhs+set+stmt+table+tried+typed+unary.Lts-def as def-lts
+use Rattle.exprs.proofs.exprs.+access+anon+arms+assign+atom+block+brace+call+case+cond+def+each+expr+exprs+form+func+glo+group+hand+head+item+items+key+lhs+loops+many+op+plain+post+prec+prim+prop+rhs+set+stmt+table+tried+typed+unary.Lts-def as def-lts
 use Rattle.exprs.proofs.exprs.each.Reads as each
 use Rattle.exprs.proofs.exprs.each.Kinds as each-kinds
-use Rattle.exprs.proofs.exprs.+anon+arms+assign+atom+block+brace+call+case+cond+def+each+expr+exprs+form+func+glo+group+hand+head+item+items+key+lhs+loops+many+member+op+path+plain+post+prec+prim+rhs+set+stmt+table+tried+typed+unary.Lts-each as each-lts
+use Rattle.exprs.proofs.exprs.+access+anon+arms+assign+atom+block+brace+call+case+cond+def+each+expr+exprs+form+func+glo+group+hand+head+item+items+key+lhs+loops+many+op+plain+post+prec+prim+prop+rhs+set+stmt+table+tried+typed+unary.Lts-each as each-lts
 use Rattle.exprs.proofs.exprs.expr.Reads as expr
 use Rattle.exprs.proofs.exprs.expr.Kinds as expr-kinds
-use Rattle.exprs.proofs.exprs.+anon+arms+assign+atom+block+brace+call+case+cond+def+each+expr+exprs+form+func+glo+group+hand+head+item+items+key+lhs+loops+many+member+op+path+plain+post+prec+prim+rhs+set+stmt+table+tried+typed+unary.Lts-expr as expr-lts
+use Rattle.exprs.proofs.exprs.+access+anon+arms+assign+atom+block+brace+call+case+cond+def+each+expr+exprs+form+func+glo+group+hand+head+item+items+key+lhs+loops+many+op+plain+post+prec+prim+prop+rhs+set+stmt+table+tried+typed+unary.Lts-expr as expr-lts
 use Rattle.exprs.proofs.exprs.exprs.Reads as exprs
 use Rattle.exprs.proofs.exprs.exprs.Kinds as exprs-kinds
-use Rattle.exprs.proofs.exprs.+anon+arms+assign+atom+block+brace+call+case+cond+def+each+expr+exprs+form+func+glo+group+hand+head+item+items+key+lhs+loops+many+member+op+path+plain+post+prec+prim+rhs+set+stmt+table+tried+typed+unary.Lts-exprs as exprs-lts
+use Rattle.exprs.proofs.exprs.+access+anon+arms+assign+atom+block+brace+call+case+cond+def+each+expr+exprs+form+func+glo+group+hand+head+item+items+key+lhs+loops+many+op+plain+post+prec+prim+prop+rhs+set+stmt+table+tried+typed+unary.Lts-exprs as exprs-lts
 use Rattle.exprs.proofs.exprs.form.Reads as form
 use Rattle.exprs.proofs.exprs.form.Kinds as form-kinds
-use Rattle.exprs.proofs.exprs.+anon+arms+assign+atom+block+brace+call+case+cond+def+each+expr+exprs+form+func+glo+group+hand+head+item+items+key+lhs+loops+many+member+op+path+plain+post+prec+prim+rhs+set+stmt+table+tried+typed+unary.Lts-form as form-lts
+use Rattle.exprs.proofs.exprs.+access+anon+arms+assign+atom+block+brace+call+case+cond+def+each+expr+exprs+form+func+glo+group+hand+head+item+items+key+lhs+loops+many+op+plain+post+prec+prim+prop+rhs+set+stmt+table+tried+typed+unary.Lts-form as form-lts
 use Rattle.exprs.proofs.exprs.func.Reads as func
 use Rattle.exprs.proofs.exprs.func.Kinds as func-kinds
-use Rattle.exprs.proofs.exprs.+anon+arms+assign+atom+block+brace+call+case+cond+def+each+expr+exprs+form+func+glo+group+hand+head+item+items+key+lhs+loops+many+member+op+path+plain+post+prec+prim+rhs+set+stmt+table+tried+typed+unary.Lts-func as func-lts
+use Rattle.exprs.proofs.exprs.+access+anon+arms+assign+atom+block+brace+call+case+cond+def+each+expr+exprs+form+func+glo+group+hand+head+item+items+key+lhs+loops+many+op+plain+post+prec+prim+prop+rhs+set+stmt+table+tried+typed+unary.Lts-func as func-lts
 use Rattle.exprs.proofs.exprs.glo.Reads as glo
 use Rattle.exprs.proofs.exprs.glo.Kinds as glo-kinds
-use Rattle.exprs.proofs.exprs.+anon+arms+assign+atom+block+brace+call+case+cond+def+each+expr+exprs+form+func+glo+group+hand+head+item+items+key+lhs+loops+many+member+op+path+plain+post+prec+prim+rhs+set+stmt+table+tried+typed+unary.Lts-glo as glo-lts
+use Rattle.exprs.proofs.exprs.+access+anon+arms+assign+atom+block+brace+call+case+cond+def+each+expr+exprs+form+func+glo+group+hand+head+item+items+key+lhs+loops+many+op+plain+post+prec+prim+prop+rhs+set+stmt+table+tried+typed+unary.Lts-glo as glo-lts
 use Rattle.exprs.proofs.exprs.group.Reads as group
 use Rattle.exprs.proofs.exprs.group.Kinds as group-kinds
-use Rattle.exprs.proofs.exprs.+anon+arms+assign+atom+block+brace+call+case+cond+def+each+expr+exprs+form+func+glo+group+hand+head+item+items+key+lhs+loops+many+member+op+path+plain+post+prec+prim+rhs+set+stmt+table+tried+typed+unary.Lts-group as group-lts
+use Rattle.exprs.proofs.exprs.+access+anon+arms+assign+atom+block+brace+call+case+cond+def+each+expr+exprs+form+func+glo+group+hand+head+item+items+key+lhs+loops+many+op+plain+post+prec+prim+prop+rhs+set+stmt+table+tried+typed+unary.Lts-group as group-lts
 use Rattle.exprs.proofs.exprs.hand.Reads as hand
 use Rattle.exprs.proofs.exprs.hand.Kinds as hand-kinds
-use Rattle.exprs.proofs.exprs.+anon+arms+assign+atom+block+brace+call+case+cond+def+each+expr+exprs+form+func+glo+group+hand+head+item+items+key+lhs+loops+many+member+op+path+plain+post+prec+prim+rhs+set+stmt+table+tried+typed+unary.Lts-hand as hand-lts
+use Rattle.exprs.proofs.exprs.+access+anon+arms+assign+atom+block+brace+call+case+cond+def+each+expr+exprs+form+func+glo+group+hand+head+item+items+key+lhs+loops+many+op+plain+post+prec+prim+prop+rhs+set+stmt+table+tried+typed+unary.Lts-hand as hand-lts
 use Rattle.exprs.proofs.exprs.head.Reads as head
 use Rattle.exprs.proofs.exprs.head.Kinds as head-kinds
-use Rattle.exprs.proofs.exprs.+anon+arms+assign+atom+block+brace+call+case+cond+def+each+expr+exprs+form+func+glo+group+hand+head+item+items+key+lhs+loops+many+member+op+path+plain+post+prec+prim+rhs+set+stmt+table+tried+typed+unary.Lts-head as head-lts
+use Rattle.exprs.proofs.exprs.+access+anon+arms+assign+atom+block+brace+call+case+cond+def+each+expr+exprs+form+func+glo+group+hand+head+item+items+key+lhs+loops+many+op+plain+post+prec+prim+prop+rhs+set+stmt+table+tried+typed+unary.Lts-head as head-lts
 use Rattle.exprs.proofs.exprs.item.Reads as item
 use Rattle.exprs.proofs.exprs.item.Kinds as item-kinds
-use Rattle.exprs.proofs.exprs.+anon+arms+assign+atom+block+brace+call+case+cond+def+each+expr+exprs+form+func+glo+group+hand+head+item+items+key+lhs+loops+many+member+op+path+plain+post+prec+prim+rhs+set+stmt+table+tried+typed+unary.Lts-item as item-lts
+use Rattle.exprs.proofs.exprs.+access+anon+arms+assign+atom+block+brace+call+case+cond+def+each+expr+exprs+form+func+glo+group+hand+head+item+items+key+lhs+loops+many+op+plain+post+prec+prim+prop+rhs+set+stmt+table+tried+typed+unary.Lts-item as item-lts
 use Rattle.exprs.proofs.exprs.items.Reads as items
 use Rattle.exprs.proofs.exprs.items.Kinds as items-kinds
-use Rattle.exprs.proofs.exprs.+anon+arms+assign+atom+block+brace+call+case+cond+def+each+expr+exprs+form+func+glo+group+hand+head+item+items+key+lhs+loops+many+member+op+path+plain+post+prec+prim+rhs+set+stmt+table+tried+typed+unary.Lts-items as items-lts
+use Rattle.exprs.proofs.exprs.+access+anon+arms+assign+atom+block+brace+call+case+cond+def+each+expr+exprs+form+func+glo+group+hand+head+item+items+key+lhs+loops+many+op+plain+post+prec+prim+prop+rhs+set+stmt+table+tried+typed+unary.Lts-items as items-lts
 use Rattle.exprs.proofs.exprs.key.Reads as key
 use Rattle.exprs.proofs.exprs.key.Kinds as key-kinds
-use Rattle.exprs.proofs.exprs.+anon+arms+assign+atom+block+brace+call+case+cond+def+each+expr+exprs+form+func+glo+group+hand+head+item+items+key+lhs+loops+many+member+op+path+plain+post+prec+prim+rhs+set+stmt+table+tried+typed+unary.Lts-key as key-lts
+use Rattle.exprs.proofs.exprs.+access+anon+arms+assign+atom+block+brace+call+case+cond+def+each+expr+exprs+form+func+glo+group+hand+head+item+items+key+lhs+loops+many+op+plain+post+prec+prim+prop+rhs+set+stmt+table+tried+typed+unary.Lts-key as key-lts
 use Rattle.exprs.proofs.exprs.lhs.Reads as lhs
 use Rattle.exprs.proofs.exprs.lhs.Kinds as lhs-kinds
-use Rattle.exprs.proofs.exprs.+anon+arms+assign+atom+block+brace+call+case+cond+def+each+expr+exprs+form+func+glo+group+hand+head+item+items+key+lhs+loops+many+member+op+path+plain+post+prec+prim+rhs+set+stmt+table+tried+typed+unary.Lts-lhs as lhs-lts
+use Rattle.exprs.proofs.exprs.+access+anon+arms+assign+atom+block+brace+call+case+cond+def+each+expr+exprs+form+func+glo+group+hand+head+item+items+key+lhs+loops+many+op+plain+post+prec+prim+prop+rhs+set+stmt+table+tried+typed+unary.Lts-lhs as lhs-lts
 use Rattle.exprs.proofs.exprs.loops.Reads as loops
 use Rattle.exprs.proofs.exprs.loops.Kinds as loops-kinds
-use Rattle.exprs.proofs.exprs.+anon+arms+assign+atom+block+brace+call+case+cond+def+each+expr+exprs+form+func+glo+group+hand+head+item+items+key+lhs+loops+many+member+op+path+plain+post+prec+prim+rhs+set+stmt+table+tried+typed+unary.Lts-loops as loops-lts
+use Rattle.exprs.proofs.exprs.+access+anon+arms+assign+atom+block+brace+call+case+cond+def+each+expr+exprs+form+func+glo+group+hand+head+item+items+key+lhs+loops+many+op+plain+post+prec+prim+prop+rhs+set+stmt+table+tried+typed+unary.Lts-loops as loops-lts
 use Rattle.exprs.proofs.exprs.many.Reads as many
 use Rattle.exprs.proofs.exprs.many.Kinds as many-kinds
-use Rattle.exprs.proofs.exprs.+anon+arms+assign+atom+block+brace+call+case+cond+def+each+expr+exprs+form+func+glo+group+hand+head+item+items+key+lhs+loops+many+member+op+path+plain+post+prec+prim+rhs+set+stmt+table+tried+typed+unary.Lts-many as many-lts
-use Rattle.exprs.proofs.exprs.member.Reads as member
-use Rattle.exprs.proofs.exprs.member.Kinds as member-kinds
-use Rattle.exprs.proofs.exprs.+anon+arms+assign+atom+block+brace+call+case+cond+def+each+expr+exprs+form+func+glo+group+hand+head+item+items+key+lhs+loops+many+member+op+path+plain+post+prec+prim+rhs+set+stmt+table+tried+typed+unary.Lts-member as member-lts
+use Rattle.exprs.proofs.exprs.+access+anon+arms+assign+atom+block+brace+call+case+cond+def+each+expr+exprs+form+func+glo+group+hand+head+item+items+key+lhs+loops+many+op+plain+post+prec+prim+prop+rhs+set+stmt+table+tried+typed+unary.Lts-many as many-lts
 use Rattle.exprs.proofs.exprs.op.Reads as op
 use Rattle.exprs.proofs.exprs.op.Kinds as op-kinds
-use Rattle.exprs.proofs.exprs.+anon+arms+assign+atom+block+brace+call+case+cond+def+each+expr+exprs+form+func+glo+group+hand+head+item+items+key+lhs+loops+many+member+op+path+plain+post+prec+prim+rhs+set+stmt+table+tried+typed+unary.Lts-op as op-lts
-use Rattle.exprs.proofs.exprs.path.Reads as path
-use Rattle.exprs.proofs.exprs.path.Kinds as path-kinds
-use Rattle.exprs.proofs.exprs.+anon+arms+assign+atom+block+brace+call+case+cond+def+each+expr+exprs+form+func+glo+group+hand+head+item+items+key+lhs+loops+many+member+op+path+plain+post+prec+prim+rhs+set+stmt+table+tried+typed+unary.Lts-path as path-lts
+use Rattle.exprs.proofs.exprs.+access+anon+arms+assign+atom+block+brace+call+case+cond+def+each+expr+exprs+form+func+glo+group+hand+head+item+items+key+lhs+loops+many+op+plain+post+prec+prim+prop+rhs+set+stmt+table+tried+typed+unary.Lts-op as op-lts
 use Rattle.exprs.proofs.exprs.plain.Reads as plain
 use Rattle.exprs.proofs.exprs.plain.Kinds as plain-kinds
-use Rattle.exprs.proofs.exprs.+anon+arms+assign+atom+block+brace+call+case+cond+def+each+expr+exprs+form+func+glo+group+hand+head+item+items+key+lhs+loops+many+member+op+path+plain+post+prec+prim+rhs+set+stmt+table+tried+typed+unary.Lts-plain as plain-lts
+use Rattle.exprs.proofs.exprs.+access+anon+arms+assign+atom+block+brace+call+case+cond+def+each+expr+exprs+form+func+glo+group+hand+head+item+items+key+lhs+loops+many+op+plain+post+prec+prim+prop+rhs+set+stmt+table+tried+typed+unary.Lts-plain as plain-lts
 use Rattle.exprs.proofs.exprs.post.Reads as post
 use Rattle.exprs.proofs.exprs.post.Kinds as post-kinds
-use Rattle.exprs.proofs.exprs.+anon+arms+assign+atom+block+brace+call+case+cond+def+each+expr+exprs+form+func+glo+group+hand+head+item+items+key+lhs+loops+many+member+op+path+plain+post+prec+prim+rhs+set+stmt+table+tried+typed+unary.Lts-post as post-lts
+use Rattle.exprs.proofs.exprs.+access+anon+arms+assign+atom+block+brace+call+case+cond+def+each+expr+exprs+form+func+glo+group+hand+head+item+items+key+lhs+loops+many+op+plain+post+prec+prim+prop+rhs+set+stmt+table+tried+typed+unary.Lts-post as post-lts
 use Rattle.exprs.proofs.exprs.prec.Reads as prec
 use Rattle.exprs.proofs.exprs.prec.Kinds as prec-kinds
-use Rattle.exprs.proofs.exprs.+anon+arms+assign+atom+block+brace+call+case+cond+def+each+expr+exprs+form+func+glo+group+hand+head+item+items+key+lhs+loops+many+member+op+path+plain+post+prec+prim+rhs+set+stmt+table+tried+typed+unary.Lts-prec as prec-lts
+use Rattle.exprs.proofs.exprs.+access+anon+arms+assign+atom+block+brace+call+case+cond+def+each+expr+exprs+form+func+glo+group+hand+head+item+items+key+lhs+loops+many+op+plain+post+prec+prim+prop+rhs+set+stmt+table+tried+typed+unary.Lts-prec as prec-lts
 use Rattle.exprs.proofs.exprs.prim.Reads as prim
 use Rattle.exprs.proofs.exprs.prim.Kinds as prim-kinds
-use Rattle.exprs.proofs.exprs.+anon+arms+assign+atom+block+brace+call+case+cond+def+each+expr+exprs+form+func+glo+group+hand+head+item+items+key+lhs+loops+many+member+op+path+plain+post+prec+prim+rhs+set+stmt+table+tried+typed+unary.Lts-prim as prim-lts
+use Rattle.exprs.proofs.exprs.+access+anon+arms+assign+atom+block+brace+call+case+cond+def+each+expr+exprs+form+func+glo+group+hand+head+item+items+key+lhs+loops+many+op+plain+post+prec+prim+prop+rhs+set+stmt+table+tried+typed+unary.Lts-prim as prim-lts
+use Rattle.exprs.proofs.exprs.prop.Reads as prop
+use Rattle.exprs.proofs.exprs.prop.Kinds as prop-kinds
+use Rattle.exprs.proofs.exprs.+access+anon+arms+assign+atom+block+brace+call+case+cond+def+each+expr+exprs+form+func+glo+group+hand+head+item+items+key+lhs+loops+many+op+plain+post+prec+prim+prop+rhs+set+stmt+table+tried+typed+unary.Lts-prop as prop-lts
 use Rattle.exprs.proofs.exprs.rhs.Reads as rhs
 use Rattle.exprs.proofs.exprs.rhs.Kinds as rhs-kinds
-use Rattle.exprs.proofs.exprs.+anon+arms+assign+atom+block+brace+call+case+cond+def+each+expr+exprs+form+func+glo+group+hand+head+item+items+key+lhs+loops+many+member+op+path+plain+post+prec+prim+rhs+set+stmt+table+tried+typed+unary.Lts-rhs as rhs-lts
+use Rattle.exprs.proofs.exprs.+access+anon+arms+assign+atom+block+brace+call+case+cond+def+each+expr+exprs+form+func+glo+group+hand+head+item+items+key+lhs+loops+many+op+plain+post+prec+prim+prop+rhs+set+stmt+table+tried+typed+unary.Lts-rhs as rhs-lts
 use Rattle.exprs.proofs.exprs.set.Reads as set
 use Rattle.exprs.proofs.exprs.set.Kinds as set-kinds
-use Rattle.exprs.proofs.exprs.+anon+arms+assign+atom+block+brace+call+case+cond+def+each+expr+exprs+form+func+glo+group+hand+head+item+items+key+lhs+loops+many+member+op+path+plain+post+prec+prim+rhs+set+stmt+table+tried+typed+unary.Lts-set as set-lts
+use Rattle.exprs.proofs.exprs.+access+anon+arms+assign+atom+block+brace+call+case+cond+def+each+expr+exprs+form+func+glo+group+hand+head+item+items+key+lhs+loops+many+op+plain+post+prec+prim+prop+rhs+set+stmt+table+tried+typed+unary.Lts-set as set-lts
 use Rattle.exprs.proofs.exprs.stmt.Reads as stmt
 use Rattle.exprs.proofs.exprs.stmt.Kinds as stmt-kinds
-use Rattle.exprs.proofs.exprs.+anon+arms+assign+atom+block+brace+call+case+cond+def+each+expr+exprs+form+func+glo+group+hand+head+item+items+key+lhs+loops+many+member+op+path+plain+post+prec+prim+rhs+set+stmt+table+tried+typed+unary.Lts-stmt as stmt-lts
+use Rattle.exprs.proofs.exprs.+access+anon+arms+assign+atom+block+brace+call+case+cond+def+each+expr+exprs+form+func+glo+group+hand+head+item+items+key+lhs+loops+many+op+plain+post+prec+prim+prop+rhs+set+stmt+table+tried+typed+unary.Lts-stmt as stmt-lts
 use Rattle.exprs.proofs.exprs.table.Reads as table
 use Rattle.exprs.proofs.exprs.table.Kinds as table-kinds
-use Rattle.exprs.proofs.exprs.+anon+arms+assign+atom+block+brace+call+case+cond+def+each+expr+exprs+form+func+glo+group+hand+head+item+items+key+lhs+loops+many+member+op+path+plain+post+prec+prim+rhs+set+stmt+table+tried+typed+unary.Lts-table as table-lts
+use Rattle.exprs.proofs.exprs.+access+anon+arms+assign+atom+block+brace+call+case+cond+def+each+expr+exprs+form+func+glo+group+hand+head+item+items+key+lhs+loops+many+op+plain+post+prec+prim+prop+rhs+set+stmt+table+tried+typed+unary.Lts-table as table-lts
 use Rattle.exprs.proofs.exprs.tried.Reads as tried
 use Rattle.exprs.proofs.exprs.tried.Kinds as tried-kinds
-use Rattle.exprs.proofs.exprs.+anon+arms+assign+atom+block+brace+call+case+cond+def+each+expr+exprs+form+func+glo+group+hand+head+item+items+key+lhs+loops+many+member+op+path+plain+post+prec+prim+rhs+set+stmt+table+tried+typed+unary.Lts-tried as tried-lts
+use Rattle.exprs.proofs.exprs.+access+anon+arms+assign+atom+block+brace+call+case+cond+def+each+expr+exprs+form+func+glo+group+hand+head+item+items+key+lhs+loops+many+op+plain+post+prec+prim+prop+rhs+set+stmt+table+tried+typed+unary.Lts-tried as tried-lts
 use Rattle.exprs.proofs.exprs.typed.Reads as typed
 use Rattle.exprs.proofs.exprs.typed.Kinds as typed-kinds
-use Rattle.exprs.proofs.exprs.+anon+arms+assign+atom+block+brace+call+case+cond+def+each+expr+exprs+form+func+glo+group+hand+head+item+items+key+lhs+loops+many+member+op+path+plain+post+prec+prim+rhs+set+stmt+table+tried+typed+unary.Lts-typed as typed-lts
+use Rattle.exprs.proofs.exprs.+access+anon+arms+assign+atom+block+brace+call+case+cond+def+each+expr+exprs+form+func+glo+group+hand+head+item+items+key+lhs+loops+many+op+plain+post+prec+prim+prop+rhs+set+stmt+table+tried+typed+unary.Lts-typed as typed-lts
 use Rattle.exprs.proofs.exprs.unary.Reads as unary
 use Rattle.exprs.proofs.exprs.unary.Kinds as unary-kinds
-use Rattle.exprs.proofs.exprs.+anon+arms+assign+atom+block+brace+call+case+cond+def+each+expr+exprs+form+func+glo+group+hand+head+item+items+key+lhs+loops+many+member+op+path+plain+post+prec+prim+rhs+set+stmt+table+tried+typed+unary.Lts-unary as unary-lts
+use Rattle.exprs.proofs.exprs.+access+anon+arms+assign+atom+block+brace+call+case+cond+def+each+expr+exprs+form+func+glo+group+hand+head+item+items+key+lhs+loops+many+op+plain+post+prec+prim+prop+rhs+set+stmt+table+tried+typed+unary.Lts-unary as unary-lts
 use Rattle.cursor.proofs.checks.check.Reads as check-reads
 use Rattle.cursor.proofs.checks.eat.Reads as eat-reads
 use Rattle.cursor.proofs.checks.eat_range.Reads as eat-range-reads
@@ -202,11 +202,11 @@ use Rattle.parts.proofs.steps.items_end.Reads as items-end-reads
 use Rattle.parts.proofs.steps.leaf.Reads as leaf-reads
 use Rattle.parts.proofs.steps.lit_key.Reads as lit-key-reads
 use Rattle.parts.proofs.steps.loop_names.Reads as loop-names-reads
-use Rattle.parts.proofs.steps.meta_member.Reads as meta-member-reads
-use Rattle.parts.proofs.steps.name_member.Reads as name-member-reads
+use Rattle.parts.proofs.steps.meta_end.Reads as meta-end-reads
 use Rattle.parts.proofs.steps.no_member.Reads as no-member-reads
 use Rattle.parts.proofs.steps.operator_of.Reads as operator-of-reads
 use Rattle.parts.proofs.steps.paren_key.Reads as paren-key-reads
+use Rattle.parts.proofs.steps.pound.Reads as pound-reads
 use Rattle.parts.proofs.steps.question.Reads as question-reads
 use Rattle.parts.proofs.steps.type_check.Reads as type-check-reads
 use Rattle.parts.proofs.values.link_of.Reads as link-of-reads
@@ -221,13 +221,16 @@ use Rattle.types.proofs.types.params.Reads as params-reads
 use Rattle.types.proofs.types.returns.Reads as returns-reads
 use Rattle.types.proofs.types.ty.Reads as ty-reads
 use Rattle.types.proofs.types.typed_ident.Reads as typed-ident-reads
-use Rattle.exprs.proofs.exprs.+anon+arms+assign+atom+block+brace+call+case+cond+def+each+expr+exprs+form+func+glo+group+hand+head+item+items+key+lhs+loops+many+member+op+path+plain+post+prec+prim+rhs+set+stmt+table+tried+typed+unary.{
+use Rattle.exprs.proofs.exprs.+access+anon+arms+assign+atom+block+brace+call+case+cond+def+each+expr+exprs+form+func+glo+group+hand+head+item+items+key+lhs+loops+many+op+plain+post+prec+prim+prop+rhs+set+stmt+table+tried+typed+unary.{
   statement,
 }
-use Rattle.exprs.proofs.exprs.+anon+arms+assign+atom+block+brace+call+case+cond+def+each+expr+exprs+form+func+glo+group+hand+head+item+items+key+lhs+loops+many+member+op+path+plain+post+prec+prim+rhs+set+stmt+table+tried+typed+unary.Tie.{
+use Rattle.exprs.proofs.exprs.+access+anon+arms+assign+atom+block+brace+call+case+cond+def+each+expr+exprs+form+func+glo+group+hand+head+item+items+key+lhs+loops+many+op+plain+post+prec+prim+prop+rhs+set+stmt+table+tried+typed+unary.Tie.{
   close,
 }
 use borrow.Author.Needs.{needs}
+
+abbrev μ-access : Measures 6 access-kinds.ps ℕ
+μ-access κs a = 20 * a .1 .1 .1 .1 .1 .1 .0 .depth + 3
 
 abbrev μ-anon : Measures 6 anon-kinds.ps ℕ
 μ-anon κs a = 20 * a .1 .1 .1 .1 .1 .1 .0 .depth + 3
@@ -304,14 +307,8 @@ abbrev μ-loops : Measures 6 loops-kinds.ps ℕ
 abbrev μ-many : Measures 6 many-kinds.ps ℕ
 μ-many κs a = 20 * a .1 .1 .1 .1 .1 .1 .0 .depth + 3
 
-abbrev μ-member : Measures 6 member-kinds.ps ℕ
-μ-member κs a = 20 * a .1 .1 .1 .1 .1 .1 .0 .depth + 2
-
 abbrev μ-op : Measures 6 op-kinds.ps ℕ
 μ-op κs a = 20 * a .1 .1 .1 .1 .1 .1 .0 .depth + 1
-
-abbrev μ-path : Measures 6 path-kinds.ps ℕ
-μ-path κs a = 20 * a .1 .1 .1 .1 .1 .1 .0 .depth + 3
 
 abbrev μ-plain : Measures 6 plain-kinds.ps ℕ
 μ-plain κs a = 20 * a .1 .1 .1 .1 .1 .1 .0 .depth + 5
@@ -324,6 +321,9 @@ abbrev μ-prec : Measures 6 prec-kinds.ps ℕ
 
 abbrev μ-prim : Measures 6 prim-kinds.ps ℕ
 μ-prim κs a = 20 * a .1 .1 .1 .1 .1 .1 .0 .depth + 10
+
+abbrev μ-prop : Measures 6 prop-kinds.ps ℕ
+μ-prop κs a = 20 * a .1 .1 .1 .1 .1 .1 .0 .depth + 2
 
 abbrev μ-rhs : Measures 6 rhs-kinds.ps ℕ
 μ-rhs κs a = 20 * a .1 .1 .1 .1 .1 .1 .0 .depth + 2
@@ -345,6 +345,12 @@ abbrev μ-typed : Measures 6 typed-kinds.ps ℕ
 
 abbrev μ-unary : Measures 6 unary-kinds.ps ℕ
 μ-unary κs a = 20 * a .1 .1 .1 .1 .1 .1 .0 .depth + 12
+
+abbrev access-at : ℕ → In 6 access-kinds.ps
+access-at t = and 6 access-kinds.ps (is 6 access-kinds.ps μ-access t) access.Pre
+
+abbrev access-below : ℕ → In 6 access-kinds.ps
+access-below t = and 6 access-kinds.ps (falls 6 access-kinds.ps _<_ μ-access t) access.Pre
 
 abbrev anon-at : ℕ → In 6 anon-kinds.ps
 anon-at t = and 6 anon-kinds.ps (is 6 anon-kinds.ps μ-anon t) anon.Pre
@@ -496,23 +502,11 @@ many-at t = and 6 many-kinds.ps (is 6 many-kinds.ps μ-many t) many.Pre
 abbrev many-below : ℕ → In 6 many-kinds.ps
 many-below t = and 6 many-kinds.ps (falls 6 many-kinds.ps _<_ μ-many t) many.Pre
 
-abbrev member-at : ℕ → In 6 member-kinds.ps
-member-at t = and 6 member-kinds.ps (is 6 member-kinds.ps μ-member t) member.Pre
-
-abbrev member-below : ℕ → In 6 member-kinds.ps
-member-below t = and 6 member-kinds.ps (falls 6 member-kinds.ps _<_ μ-member t) member.Pre
-
 abbrev op-at : ℕ → In 6 op-kinds.ps
 op-at t = and 6 op-kinds.ps (is 6 op-kinds.ps μ-op t) op.Pre
 
 abbrev op-below : ℕ → In 6 op-kinds.ps
 op-below t = and 6 op-kinds.ps (falls 6 op-kinds.ps _<_ μ-op t) op.Pre
-
-abbrev path-at : ℕ → In 6 path-kinds.ps
-path-at t = and 6 path-kinds.ps (is 6 path-kinds.ps μ-path t) path.Pre
-
-abbrev path-below : ℕ → In 6 path-kinds.ps
-path-below t = and 6 path-kinds.ps (falls 6 path-kinds.ps _<_ μ-path t) path.Pre
 
 abbrev plain-at : ℕ → In 6 plain-kinds.ps
 plain-at t = and 6 plain-kinds.ps (is 6 plain-kinds.ps μ-plain t) plain.Pre
@@ -537,6 +531,12 @@ prim-at t = and 6 prim-kinds.ps (is 6 prim-kinds.ps μ-prim t) prim.Pre
 
 abbrev prim-below : ℕ → In 6 prim-kinds.ps
 prim-below t = and 6 prim-kinds.ps (falls 6 prim-kinds.ps _<_ μ-prim t) prim.Pre
+
+abbrev prop-at : ℕ → In 6 prop-kinds.ps
+prop-at t = and 6 prop-kinds.ps (is 6 prop-kinds.ps μ-prop t) prop.Pre
+
+abbrev prop-below : ℕ → In 6 prop-kinds.ps
+prop-below t = and 6 prop-kinds.ps (falls 6 prop-kinds.ps _<_ μ-prop t) prop.Pre
 
 abbrev rhs-at : ℕ → In 6 rhs-kinds.ps
 rhs-at t = and 6 rhs-kinds.ps (is 6 rhs-kinds.ps μ-rhs t) rhs.Pre
@@ -579,6 +579,438 @@ unary-at t = and 6 unary-kinds.ps (is 6 unary-kinds.ps μ-unary t) unary.Pre
 
 abbrev unary-below : ℕ → In 6 unary-kinds.ps
 unary-below t = and 6 unary-kinds.ps (falls 6 unary-kinds.ps _<_ μ-unary t) unary.Pre
+
+access-question-requires : (t : ℕ) → access-lts.Need-question-requires (
+  question-reads.Asked,
+  question-reads.Learnt,
+  pick-reads.Asked,
+  pick-reads.Learnt,
+  no-member-reads.Asked,
+  no-member-reads.Learnt,
+  pound-reads.Asked,
+  pound-reads.Learnt,
+  prop-below t,
+  prop.Post,
+  member-record-reads.Asked,
+  member-record-reads.Learnt,
+) (access-at t) access.Post
+access-question-requires t c κs = tt
+
+access-enum-known-asked : (t : ℕ) → access-lts.Need-enum-known-asked (
+  question-reads.Asked,
+  question-reads.Learnt,
+  pick-reads.Asked,
+  pick-reads.Learnt,
+  no-member-reads.Asked,
+  no-member-reads.Learnt,
+  pound-reads.Asked,
+  pound-reads.Learnt,
+  prop-below t,
+  prop.Post,
+  member-record-reads.Asked,
+  member-record-reads.Learnt,
+) (access-at t) access.Post
+access-enum-known-asked t c = c .match .keys1
+
+access-enum-known-asked-2 : (t : ℕ) → access-lts.Need-enum-known-asked-2 (
+  question-reads.Asked,
+  question-reads.Learnt,
+  pick-reads.Asked,
+  pick-reads.Learnt,
+  no-member-reads.Asked,
+  no-member-reads.Learnt,
+  pound-reads.Asked,
+  pound-reads.Learnt,
+  prop-below t,
+  prop.Post,
+  member-record-reads.Asked,
+  member-record-reads.Learnt,
+) (access-at t) access.Post
+access-enum-known-asked-2 t c = c .match .keys2
+
+access-returns : (t : ℕ) → access-lts.Need-returns (
+  question-reads.Asked,
+  question-reads.Learnt,
+  pick-reads.Asked,
+  pick-reads.Learnt,
+  no-member-reads.Asked,
+  no-member-reads.Learnt,
+  pound-reads.Asked,
+  pound-reads.Learnt,
+  prop-below t,
+  prop.Post,
+  member-record-reads.Asked,
+  member-record-reads.Learnt,
+) (access-at t) access.Post
+access-returns t c = sym (pm.access-failed _ _ _ _ _ (via asAsked (c .before .before .before .question .ensures _ _ _ _) (c .before .asked2 .given .1)))
+
+access-slice-aggregate-pick : (t : ℕ) → access-lts.Need-slice-aggregate-pick (
+  question-reads.Asked,
+  question-reads.Learnt,
+  pick-reads.Asked,
+  pick-reads.Learnt,
+  no-member-reads.Asked,
+  no-member-reads.Learnt,
+  pound-reads.Asked,
+  pound-reads.Learnt,
+  prop-below t,
+  prop.Post,
+  member-record-reads.Asked,
+  member-record-reads.Learnt,
+) (access-at t) access.Post
+access-slice-aggregate-pick t c = search needs
+
+access-pick-requires : (t : ℕ) → access-lts.Need-pick-requires (
+  question-reads.Asked,
+  question-reads.Learnt,
+  pick-reads.Asked,
+  pick-reads.Learnt,
+  no-member-reads.Asked,
+  no-member-reads.Learnt,
+  pound-reads.Asked,
+  pound-reads.Learnt,
+  prop-below t,
+  prop.Post,
+  member-record-reads.Asked,
+  member-record-reads.Learnt,
+) (access-at t) access.Post
+access-pick-requires t c κs = tt
+
+access-enum-known-picked : (t : ℕ) → access-lts.Need-enum-known-picked (
+  question-reads.Asked,
+  question-reads.Learnt,
+  pick-reads.Asked,
+  pick-reads.Learnt,
+  no-member-reads.Asked,
+  no-member-reads.Learnt,
+  pound-reads.Asked,
+  pound-reads.Learnt,
+  prop-below t,
+  prop.Post,
+  member-record-reads.Asked,
+  member-record-reads.Learnt,
+) (access-at t) access.Post
+access-enum-known-picked t c = c .match2 .keys1
+
+access-enum-known-picked-2 : (t : ℕ) → access-lts.Need-enum-known-picked-2 (
+  question-reads.Asked,
+  question-reads.Learnt,
+  pick-reads.Asked,
+  pick-reads.Learnt,
+  no-member-reads.Asked,
+  no-member-reads.Learnt,
+  pound-reads.Asked,
+  pound-reads.Learnt,
+  prop-below t,
+  prop.Post,
+  member-record-reads.Asked,
+  member-record-reads.Learnt,
+) (access-at t) access.Post
+access-enum-known-picked-2 t c = c .match2 .keys2
+
+access-returns-2 : (t : ℕ) → access-lts.Need-returns-2 (
+  question-reads.Asked,
+  question-reads.Learnt,
+  pick-reads.Asked,
+  pick-reads.Learnt,
+  no-member-reads.Asked,
+  no-member-reads.Learnt,
+  pound-reads.Asked,
+  pound-reads.Learnt,
+  prop-below t,
+  prop.Post,
+  member-record-reads.Asked,
+  member-record-reads.Learnt,
+) (access-at t) access.Post
+access-returns-2 t c = let c₁ = c .before in let c₂ = c₁ .before .before in let c₃ = c₂ .before .before .before .before in let c₄ = c₃ .before .before in sym (pm.access-full _ _ _ _ _ (via asAsked (c₄ .question .ensures _ _ _ _) (c₃ .asked .given .1)) (via asPicked (c₂ .pick .ensures _ _ _ _ _) (c₁ .picked2 .given .1)))
+
+access-no-member-requires : (t : ℕ) → access-lts.Need-no-member-requires (
+  question-reads.Asked,
+  question-reads.Learnt,
+  pick-reads.Asked,
+  pick-reads.Learnt,
+  no-member-reads.Asked,
+  no-member-reads.Learnt,
+  pound-reads.Asked,
+  pound-reads.Learnt,
+  prop-below t,
+  prop.Post,
+  member-record-reads.Asked,
+  member-record-reads.Learnt,
+) (access-at t) access.Post
+access-no-member-requires t c κs = tt
+
+access-returns-3 : (t : ℕ) → access-lts.Need-returns-3 (
+  question-reads.Asked,
+  question-reads.Learnt,
+  pick-reads.Asked,
+  pick-reads.Learnt,
+  no-member-reads.Asked,
+  no-member-reads.Learnt,
+  pound-reads.Asked,
+  pound-reads.Learnt,
+  prop-below t,
+  prop.Post,
+  member-record-reads.Asked,
+  member-record-reads.Learnt,
+) (access-at t) access.Post
+access-returns-3 t c = let c₁ = c .before in let c₂ = c₁ .before .before in let c₃ = c₂ .before .before in let c₄ = c₃ .before .before .before .before in let c₅ = c₄ .before .before in c .no-member .ensures _ _ _ ∙ sym (pm.access-none _ _ _ _ _ (via asAsked (c₅ .question .ensures _ _ _ _) (c₄ .asked .given .1)) (via asPicked (c₃ .pick .ensures _ _ _ _ _) (c₂ .picked .given .1)) (c₁ .if1 .taken))
+
+access-pound-requires : (t : ℕ) → access-lts.Need-pound-requires (
+  question-reads.Asked,
+  question-reads.Learnt,
+  pick-reads.Asked,
+  pick-reads.Learnt,
+  no-member-reads.Asked,
+  no-member-reads.Learnt,
+  pound-reads.Asked,
+  pound-reads.Learnt,
+  prop-below t,
+  prop.Post,
+  member-record-reads.Asked,
+  member-record-reads.Learnt,
+) (access-at t) access.Post
+access-pound-requires t c κs = tt
+
+access-enum-known-marked : (t : ℕ) → access-lts.Need-enum-known-marked (
+  question-reads.Asked,
+  question-reads.Learnt,
+  pick-reads.Asked,
+  pick-reads.Learnt,
+  no-member-reads.Asked,
+  no-member-reads.Learnt,
+  pound-reads.Asked,
+  pound-reads.Learnt,
+  prop-below t,
+  prop.Post,
+  member-record-reads.Asked,
+  member-record-reads.Learnt,
+) (access-at t) access.Post
+access-enum-known-marked t c = c .match3 .keys1
+
+access-enum-known-marked-2 : (t : ℕ) → access-lts.Need-enum-known-marked-2 (
+  question-reads.Asked,
+  question-reads.Learnt,
+  pick-reads.Asked,
+  pick-reads.Learnt,
+  no-member-reads.Asked,
+  no-member-reads.Learnt,
+  pound-reads.Asked,
+  pound-reads.Learnt,
+  prop-below t,
+  prop.Post,
+  member-record-reads.Asked,
+  member-record-reads.Learnt,
+) (access-at t) access.Post
+access-enum-known-marked-2 t c = c .match3 .keys2
+
+access-returns-4 : (t : ℕ) → access-lts.Need-returns-4 (
+  question-reads.Asked,
+  question-reads.Learnt,
+  pick-reads.Asked,
+  pick-reads.Learnt,
+  no-member-reads.Asked,
+  no-member-reads.Learnt,
+  pound-reads.Asked,
+  pound-reads.Learnt,
+  prop-below t,
+  prop.Post,
+  member-record-reads.Asked,
+  member-record-reads.Learnt,
+) (access-at t) access.Post
+access-returns-4 t c = let c₁ = c .before in let c₂ = c₁ .before .before in let c₃ = c₂ .before .before in let c₄ = c₃ .before .before in let c₅ = c₄ .before .before in let c₆ = c₅ .before .before .before .before in let c₇ = c₆ .before .before in sym (pm.access-spent _ _ _ _ _ (via asAsked (c₇ .question .ensures _ _ _ _) (c₆ .asked .given .1)) (via asPicked (c₅ .pick .ensures _ _ _ _ _) (c₄ .picked .given .1)) (c₃ .if1 .left) (via asPounded (c₂ .pound .ensures _ _ _ _) (c₁ .marked2 .given .1)))
+
+access-prop-requires : (t : ℕ) → access-lts.Need-prop-requires (
+  question-reads.Asked,
+  question-reads.Learnt,
+  pick-reads.Asked,
+  pick-reads.Learnt,
+  no-member-reads.Asked,
+  no-member-reads.Learnt,
+  pound-reads.Asked,
+  pound-reads.Learnt,
+  prop-below t,
+  prop.Post,
+  member-record-reads.Asked,
+  member-record-reads.Learnt,
+) (access-at t) access.Post
+access-prop-requires t c κs = (omega (arith, c .before .before .before .before .before .before .before .before .before .before .before .before .before .before .before .before .before .before .before .before .before .before .before .before .before .before .before .pre .0), tt)
+
+access-enum-known-read : (t : ℕ) → access-lts.Need-enum-known-read (
+  question-reads.Asked,
+  question-reads.Learnt,
+  pick-reads.Asked,
+  pick-reads.Learnt,
+  no-member-reads.Asked,
+  no-member-reads.Learnt,
+  pound-reads.Asked,
+  pound-reads.Learnt,
+  prop-below t,
+  prop.Post,
+  member-record-reads.Asked,
+  member-record-reads.Learnt,
+) (access-at t) access.Post
+access-enum-known-read t c = c .match4 .keys1
+
+access-member-record-requires : (t : ℕ) → access-lts.Need-member-record-requires (
+  question-reads.Asked,
+  question-reads.Learnt,
+  pick-reads.Asked,
+  pick-reads.Learnt,
+  no-member-reads.Asked,
+  no-member-reads.Learnt,
+  pound-reads.Asked,
+  pound-reads.Learnt,
+  prop-below t,
+  prop.Post,
+  member-record-reads.Asked,
+  member-record-reads.Learnt,
+) (access-at t) access.Post
+access-member-record-requires t c κs = tt
+
+access-enum-known-read-2 : (t : ℕ) → access-lts.Need-enum-known-read-2 (
+  question-reads.Asked,
+  question-reads.Learnt,
+  pick-reads.Asked,
+  pick-reads.Learnt,
+  no-member-reads.Asked,
+  no-member-reads.Learnt,
+  pound-reads.Asked,
+  pound-reads.Learnt,
+  prop-below t,
+  prop.Post,
+  member-record-reads.Asked,
+  member-record-reads.Learnt,
+) (access-at t) access.Post
+access-enum-known-read-2 t c = c .match4 .keys2
+
+access-same-length : (t : ℕ) → access-lts.Need-same-length (
+  question-reads.Asked,
+  question-reads.Learnt,
+  pick-reads.Asked,
+  pick-reads.Learnt,
+  no-member-reads.Asked,
+  no-member-reads.Learnt,
+  pound-reads.Asked,
+  pound-reads.Learnt,
+  prop-below t,
+  prop.Post,
+  member-record-reads.Asked,
+  member-record-reads.Learnt,
+) (access-at t) access.Post
+access-same-length t c = (c .before .before .member-record .kept .0) ∙ (c .before .before .before .before .before .before .before .before .before .before .before .before .before .prop .kept .1 .1 .0)
+
+access-same-length-2 : (t : ℕ) → access-lts.Need-same-length-2 (
+  question-reads.Asked,
+  question-reads.Learnt,
+  pick-reads.Asked,
+  pick-reads.Learnt,
+  no-member-reads.Asked,
+  no-member-reads.Learnt,
+  pound-reads.Asked,
+  pound-reads.Learnt,
+  prop-below t,
+  prop.Post,
+  member-record-reads.Asked,
+  member-record-reads.Learnt,
+) (access-at t) access.Post
+access-same-length-2 t c = (c .before .before .before .before .before .before .before .before .before .before .before .before .before .prop .kept .1 .1 .1 .0)
+
+access-same-length-3 : (t : ℕ) → access-lts.Need-same-length-3 (
+  question-reads.Asked,
+  question-reads.Learnt,
+  pick-reads.Asked,
+  pick-reads.Learnt,
+  no-member-reads.Asked,
+  no-member-reads.Learnt,
+  pound-reads.Asked,
+  pound-reads.Learnt,
+  prop-below t,
+  prop.Post,
+  member-record-reads.Asked,
+  member-record-reads.Learnt,
+) (access-at t) access.Post
+access-same-length-3 t c = (c .before .before .before .before .before .before .before .before .before .before .before .before .before .prop .kept .1 .1 .1 .1 .0)
+
+access-returns-5 : (t : ℕ) → access-lts.Need-returns-5 (
+  question-reads.Asked,
+  question-reads.Learnt,
+  pick-reads.Asked,
+  pick-reads.Learnt,
+  no-member-reads.Asked,
+  no-member-reads.Learnt,
+  pound-reads.Asked,
+  pound-reads.Learnt,
+  prop-below t,
+  prop.Post,
+  member-record-reads.Asked,
+  member-record-reads.Learnt,
+) (access-at t) access.Post
+access-returns-5 t c = let c₁ = c .before .before in let c₂ = c₁ .before .before .before in let c₃ = c₂ .before .before .before .before .before .before .before .before in let c₄ = c₃ .before .before .before .before .before .before in let c₅ = c₄ .before .before in let c₆ = c₅ .before .before in let c₇ = c₆ .before .before in let c₈ = c₇ .before .before in let c₉ = c₈ .before .before .before .before in let c₁₀ = c₉ .before .before in c₁ .member-record .ensures _ _ _ ∙ sym (pm.access-on _ _ _ _ _ (via asAsked (c₁₀ .question .ensures _ _ _ _) (c₉ .asked .given .1)) (via asPicked (c₈ .pick .ensures _ _ _ _ _) (c₇ .picked .given .1)) (c₆ .if1 .left) (via asPounded (c₅ .pound .ensures _ _ _ _) (c₄ .marked .given .1)) (via asBuilt (c₃ .prop .ensures) (c₂ .read .given .1)))
+
+access-same-length-4 : (t : ℕ) → access-lts.Need-same-length-4 (
+  question-reads.Asked,
+  question-reads.Learnt,
+  pick-reads.Asked,
+  pick-reads.Learnt,
+  no-member-reads.Asked,
+  no-member-reads.Learnt,
+  pound-reads.Asked,
+  pound-reads.Learnt,
+  prop-below t,
+  prop.Post,
+  member-record-reads.Asked,
+  member-record-reads.Learnt,
+) (access-at t) access.Post
+access-same-length-4 t c = (c .before .before .before .before .before .before .before .before .before .prop .kept .1 .1 .0)
+
+access-same-length-5 : (t : ℕ) → access-lts.Need-same-length-5 (
+  question-reads.Asked,
+  question-reads.Learnt,
+  pick-reads.Asked,
+  pick-reads.Learnt,
+  no-member-reads.Asked,
+  no-member-reads.Learnt,
+  pound-reads.Asked,
+  pound-reads.Learnt,
+  prop-below t,
+  prop.Post,
+  member-record-reads.Asked,
+  member-record-reads.Learnt,
+) (access-at t) access.Post
+access-same-length-5 t c = (c .before .before .before .before .before .before .before .before .before .prop .kept .1 .1 .1 .0)
+
+access-same-length-6 : (t : ℕ) → access-lts.Need-same-length-6 (
+  question-reads.Asked,
+  question-reads.Learnt,
+  pick-reads.Asked,
+  pick-reads.Learnt,
+  no-member-reads.Asked,
+  no-member-reads.Learnt,
+  pound-reads.Asked,
+  pound-reads.Learnt,
+  prop-below t,
+  prop.Post,
+  member-record-reads.Asked,
+  member-record-reads.Learnt,
+) (access-at t) access.Post
+access-same-length-6 t c = (c .before .before .before .before .before .before .before .before .before .prop .kept .1 .1 .1 .1 .0)
+
+access-returns-6 : (t : ℕ) → access-lts.Need-returns-6 (
+  question-reads.Asked,
+  question-reads.Learnt,
+  pick-reads.Asked,
+  pick-reads.Learnt,
+  no-member-reads.Asked,
+  no-member-reads.Learnt,
+  pound-reads.Asked,
+  pound-reads.Learnt,
+  prop-below t,
+  prop.Post,
+  member-record-reads.Asked,
+  member-record-reads.Learnt,
+) (access-at t) access.Post
+access-returns-6 t c = let c₁ = c .before in let c₂ = c₁ .before .before .before .before .before .before .before .before in let c₃ = c₂ .before .before .before .before .before .before in let c₄ = c₃ .before .before in let c₅ = c₄ .before .before in let c₆ = c₅ .before .before in let c₇ = c₆ .before .before in let c₈ = c₇ .before .before .before .before in let c₉ = c₈ .before .before in sym (pm.access-lost _ _ _ _ _ (via asAsked (c₉ .question .ensures _ _ _ _) (c₈ .asked .given .1)) (via asPicked (c₇ .pick .ensures _ _ _ _ _) (c₆ .picked .given .1)) (c₅ .if1 .left) (via asPounded (c₄ .pound .ensures _ _ _ _) (c₃ .marked .given .1)) (via asBuilt (c₂ .prop .ensures) (c₁ .read2 .given .1)))
 
 anon-func-requires : (t : ℕ) → anon-lts.Need-func-requires (
   func-below t,
@@ -13312,618 +13744,6 @@ many-returns-7 : (t : ℕ) → many-lts.Need-returns-7 (
 ) (many-at t) many.Post
 many-returns-7 t c = let c₁ = c .before in let c₂ = c₁ .before .before in let c₃ = c₂ .before .before .before in let c₄ = c₃ .before .before .before .before .before .before .before .before in let c₅ = c₄ .before .before .before .before .before .before in let c₆ = c₅ .before .before in let c₇ = c₆ .before .before .before in let c₈ = c₇ .before .before .before .before .before .before .before .before in let c₉ = c₈ .before .before .before .before .before .before in let c₁₀ = c₉ .before .before in sym (st.multi-full _ _ _ _ _ (sym (c₉ .to .given .1) ∙ c₁₀ .to-assign-left .ensures) (via asRowed (c₈ .lhs .ensures) (c₇ .listed .given .1)) (via asMoved (c₆ .expect .ensures _ _ _ _) (c₅ .set .given .1)) (via asBuilt (c₄ .expr .ensures) (c₃ .read .given .1)) (via asTest (c₂ .check .ensures _ _ _ _ _) (c₁ .several3 .given .1)))
 
-member-bump-requires : (t : ℕ) → member-lts.Need-bump-requires (
-  bump-reads.Asked,
-  bump-reads.Learnt,
-  eat-reads.Asked,
-  eat-reads.Learnt,
-  meta-member-reads.Asked,
-  meta-member-reads.Learnt,
-  name-member-reads.Asked,
-  name-member-reads.Learnt,
-  expr-below t,
-  expr.Post,
-  expect-reads.Asked,
-  expect-reads.Learnt,
-  member-record-reads.Asked,
-  member-record-reads.Learnt,
-) (member-at t) member.Post
-member-bump-requires t c κs = tt
-
-member-enum-known-opened : (t : ℕ) → member-lts.Need-enum-known-opened (
-  bump-reads.Asked,
-  bump-reads.Learnt,
-  eat-reads.Asked,
-  eat-reads.Learnt,
-  meta-member-reads.Asked,
-  meta-member-reads.Learnt,
-  name-member-reads.Asked,
-  name-member-reads.Learnt,
-  expr-below t,
-  expr.Post,
-  expect-reads.Asked,
-  expect-reads.Learnt,
-  member-record-reads.Asked,
-  member-record-reads.Learnt,
-) (member-at t) member.Post
-member-enum-known-opened t c = c .match .keys1
-
-member-enum-known-opened-2 : (t : ℕ) → member-lts.Need-enum-known-opened-2 (
-  bump-reads.Asked,
-  bump-reads.Learnt,
-  eat-reads.Asked,
-  eat-reads.Learnt,
-  meta-member-reads.Asked,
-  meta-member-reads.Learnt,
-  name-member-reads.Asked,
-  name-member-reads.Learnt,
-  expr-below t,
-  expr.Post,
-  expect-reads.Asked,
-  expect-reads.Learnt,
-  member-record-reads.Asked,
-  member-record-reads.Learnt,
-) (member-at t) member.Post
-member-enum-known-opened-2 t c = c .match .keys2
-
-member-returns : (t : ℕ) → member-lts.Need-returns (
-  bump-reads.Asked,
-  bump-reads.Learnt,
-  eat-reads.Asked,
-  eat-reads.Learnt,
-  meta-member-reads.Asked,
-  meta-member-reads.Learnt,
-  name-member-reads.Asked,
-  name-member-reads.Learnt,
-  expr-below t,
-  expr.Post,
-  expect-reads.Asked,
-  expect-reads.Learnt,
-  member-record-reads.Asked,
-  member-record-reads.Learnt,
-) (member-at t) member.Post
-member-returns t c = sym (pm.member-spent _ _ _ _ _ _ _ (via asMoved (c .before .before .before .bump .ensures _ _) (c .before .opened2 .given .1)))
-
-member-eat-requires : (t : ℕ) → member-lts.Need-eat-requires (
-  bump-reads.Asked,
-  bump-reads.Learnt,
-  eat-reads.Asked,
-  eat-reads.Learnt,
-  meta-member-reads.Asked,
-  meta-member-reads.Learnt,
-  name-member-reads.Asked,
-  name-member-reads.Learnt,
-  expr-below t,
-  expr.Post,
-  expect-reads.Asked,
-  expect-reads.Learnt,
-  member-record-reads.Asked,
-  member-record-reads.Learnt,
-) (member-at t) member.Post
-member-eat-requires t c κs = tt
-
-member-enum-known-meta : (t : ℕ) → member-lts.Need-enum-known-meta (
-  bump-reads.Asked,
-  bump-reads.Learnt,
-  eat-reads.Asked,
-  eat-reads.Learnt,
-  meta-member-reads.Asked,
-  meta-member-reads.Learnt,
-  name-member-reads.Asked,
-  name-member-reads.Learnt,
-  expr-below t,
-  expr.Post,
-  expect-reads.Asked,
-  expect-reads.Learnt,
-  member-record-reads.Asked,
-  member-record-reads.Learnt,
-) (member-at t) member.Post
-member-enum-known-meta t c = c .match2 .keys1
-
-member-meta-member-requires : (t : ℕ) → member-lts.Need-meta-member-requires (
-  bump-reads.Asked,
-  bump-reads.Learnt,
-  eat-reads.Asked,
-  eat-reads.Learnt,
-  meta-member-reads.Asked,
-  meta-member-reads.Learnt,
-  name-member-reads.Asked,
-  name-member-reads.Learnt,
-  expr-below t,
-  expr.Post,
-  expect-reads.Asked,
-  expect-reads.Learnt,
-  member-record-reads.Asked,
-  member-record-reads.Learnt,
-) (member-at t) member.Post
-member-meta-member-requires t c κs = tt
-
-member-same-length : (t : ℕ) → member-lts.Need-same-length (
-  bump-reads.Asked,
-  bump-reads.Learnt,
-  eat-reads.Asked,
-  eat-reads.Learnt,
-  meta-member-reads.Asked,
-  meta-member-reads.Learnt,
-  name-member-reads.Asked,
-  name-member-reads.Learnt,
-  expr-below t,
-  expr.Post,
-  expect-reads.Asked,
-  expect-reads.Learnt,
-  member-record-reads.Asked,
-  member-record-reads.Learnt,
-) (member-at t) member.Post
-member-same-length t c = (c .before .before .meta-member .kept .1 .0)
-
-member-returns-2 : (t : ℕ) → member-lts.Need-returns-2 (
-  bump-reads.Asked,
-  bump-reads.Learnt,
-  eat-reads.Asked,
-  eat-reads.Learnt,
-  meta-member-reads.Asked,
-  meta-member-reads.Learnt,
-  name-member-reads.Asked,
-  name-member-reads.Learnt,
-  expr-below t,
-  expr.Post,
-  expect-reads.Asked,
-  expect-reads.Learnt,
-  member-record-reads.Asked,
-  member-record-reads.Learnt,
-) (member-at t) member.Post
-member-returns-2 t c = let c₁ = c .before .before in let c₂ = c₁ .before .before .before .before in let c₃ = c₂ .before .before in let c₄ = c₃ .before .before .before in let c₅ = c₄ .before .before in c₁ .meta-member .ensures _ _ _ ∙ sym (pm.member-meta _ _ _ _ _ _ _ (via asMoved (c₅ .bump .ensures _ _) (c₄ .opened .given .1)) (via asTest (c₃ .eat .ensures _ _ _ _) (c₂ .meta .given .1)))
-
-member-enum-known-meta-2 : (t : ℕ) → member-lts.Need-enum-known-meta-2 (
-  bump-reads.Asked,
-  bump-reads.Learnt,
-  eat-reads.Asked,
-  eat-reads.Learnt,
-  meta-member-reads.Asked,
-  meta-member-reads.Learnt,
-  name-member-reads.Asked,
-  name-member-reads.Learnt,
-  expr-below t,
-  expr.Post,
-  expect-reads.Asked,
-  expect-reads.Learnt,
-  member-record-reads.Asked,
-  member-record-reads.Learnt,
-) (member-at t) member.Post
-member-enum-known-meta-2 t c = c .match2 .keys2
-
-member-enum-known-meta-3 : (t : ℕ) → member-lts.Need-enum-known-meta-3 (
-  bump-reads.Asked,
-  bump-reads.Learnt,
-  eat-reads.Asked,
-  eat-reads.Learnt,
-  meta-member-reads.Asked,
-  meta-member-reads.Learnt,
-  name-member-reads.Asked,
-  name-member-reads.Learnt,
-  expr-below t,
-  expr.Post,
-  expect-reads.Asked,
-  expect-reads.Learnt,
-  member-record-reads.Asked,
-  member-record-reads.Learnt,
-) (member-at t) member.Post
-member-enum-known-meta-3 t c = c .match2 .keys3
-
-member-returns-3 : (t : ℕ) → member-lts.Need-returns-3 (
-  bump-reads.Asked,
-  bump-reads.Learnt,
-  eat-reads.Asked,
-  eat-reads.Learnt,
-  meta-member-reads.Asked,
-  meta-member-reads.Learnt,
-  name-member-reads.Asked,
-  name-member-reads.Learnt,
-  expr-below t,
-  expr.Post,
-  expect-reads.Asked,
-  expect-reads.Learnt,
-  member-record-reads.Asked,
-  member-record-reads.Learnt,
-) (member-at t) member.Post
-member-returns-3 t c = let c₁ = c .before in let c₂ = c₁ .before .before in let c₃ = c₂ .before .before .before in let c₄ = c₃ .before .before in sym (pm.member-full _ _ _ _ _ _ _ (via asMoved (c₄ .bump .ensures _ _) (c₃ .opened .given .1)) (via asTest (c₂ .eat .ensures _ _ _ _) (c₁ .meta3 .given .1)))
-
-member-name-member-requires : (t : ℕ) → member-lts.Need-name-member-requires (
-  bump-reads.Asked,
-  bump-reads.Learnt,
-  eat-reads.Asked,
-  eat-reads.Learnt,
-  meta-member-reads.Asked,
-  meta-member-reads.Learnt,
-  name-member-reads.Asked,
-  name-member-reads.Learnt,
-  expr-below t,
-  expr.Post,
-  expect-reads.Asked,
-  expect-reads.Learnt,
-  member-record-reads.Asked,
-  member-record-reads.Learnt,
-) (member-at t) member.Post
-member-name-member-requires t c κs = tt
-
-member-same-length-2 : (t : ℕ) → member-lts.Need-same-length-2 (
-  bump-reads.Asked,
-  bump-reads.Learnt,
-  eat-reads.Asked,
-  eat-reads.Learnt,
-  meta-member-reads.Asked,
-  meta-member-reads.Learnt,
-  name-member-reads.Asked,
-  name-member-reads.Learnt,
-  expr-below t,
-  expr.Post,
-  expect-reads.Asked,
-  expect-reads.Learnt,
-  member-record-reads.Asked,
-  member-record-reads.Learnt,
-) (member-at t) member.Post
-member-same-length-2 t c = (c .before .before .name-member .kept .1 .0)
-
-member-returns-4 : (t : ℕ) → member-lts.Need-returns-4 (
-  bump-reads.Asked,
-  bump-reads.Learnt,
-  eat-reads.Asked,
-  eat-reads.Learnt,
-  meta-member-reads.Asked,
-  meta-member-reads.Learnt,
-  name-member-reads.Asked,
-  name-member-reads.Learnt,
-  expr-below t,
-  expr.Post,
-  expect-reads.Asked,
-  expect-reads.Learnt,
-  member-record-reads.Asked,
-  member-record-reads.Learnt,
-) (member-at t) member.Post
-member-returns-4 t c = let c₁ = c .before .before in let c₂ = c₁ .before .before .before in let c₃ = c₂ .before .before in let c₄ = c₃ .before .before in let c₅ = c₄ .before .before .before in let c₆ = c₅ .before .before in c₁ .name-member .ensures _ _ _ ∙ sym (pm.member-name _ _ _ _ _ _ _ (via asMoved (c₆ .bump .ensures _ _) (c₅ .opened .given .1)) (via asTest (c₄ .eat .ensures _ _ _ _) (c₃ .meta2 .given .1)) (c₂ .if1 .taken))
-
-member-expr-requires : (t : ℕ) → member-lts.Need-expr-requires (
-  bump-reads.Asked,
-  bump-reads.Learnt,
-  eat-reads.Asked,
-  eat-reads.Learnt,
-  meta-member-reads.Asked,
-  meta-member-reads.Learnt,
-  name-member-reads.Asked,
-  name-member-reads.Learnt,
-  expr-below t,
-  expr.Post,
-  expect-reads.Asked,
-  expect-reads.Learnt,
-  member-record-reads.Asked,
-  member-record-reads.Learnt,
-) (member-at t) member.Post
-member-expr-requires t c κs = (omega (arith, c .before .before .before .before .before .before .before .before .before .before .before .before .before .before .before .before .before .before .before .before .pre .0), tt)
-
-member-enum-known-read : (t : ℕ) → member-lts.Need-enum-known-read (
-  bump-reads.Asked,
-  bump-reads.Learnt,
-  eat-reads.Asked,
-  eat-reads.Learnt,
-  meta-member-reads.Asked,
-  meta-member-reads.Learnt,
-  name-member-reads.Asked,
-  name-member-reads.Learnt,
-  expr-below t,
-  expr.Post,
-  expect-reads.Asked,
-  expect-reads.Learnt,
-  member-record-reads.Asked,
-  member-record-reads.Learnt,
-) (member-at t) member.Post
-member-enum-known-read t c = c .match3 .keys1
-
-member-enum-known-read-2 : (t : ℕ) → member-lts.Need-enum-known-read-2 (
-  bump-reads.Asked,
-  bump-reads.Learnt,
-  eat-reads.Asked,
-  eat-reads.Learnt,
-  meta-member-reads.Asked,
-  meta-member-reads.Learnt,
-  name-member-reads.Asked,
-  name-member-reads.Learnt,
-  expr-below t,
-  expr.Post,
-  expect-reads.Asked,
-  expect-reads.Learnt,
-  member-record-reads.Asked,
-  member-record-reads.Learnt,
-) (member-at t) member.Post
-member-enum-known-read-2 t c = c .match3 .keys2
-
-member-same-length-3 : (t : ℕ) → member-lts.Need-same-length-3 (
-  bump-reads.Asked,
-  bump-reads.Learnt,
-  eat-reads.Asked,
-  eat-reads.Learnt,
-  meta-member-reads.Asked,
-  meta-member-reads.Learnt,
-  name-member-reads.Asked,
-  name-member-reads.Learnt,
-  expr-below t,
-  expr.Post,
-  expect-reads.Asked,
-  expect-reads.Learnt,
-  member-record-reads.Asked,
-  member-record-reads.Learnt,
-) (member-at t) member.Post
-member-same-length-3 t c = (c .before .before .before .before .before .before .before .before .before .expr .kept .1 .1 .0)
-
-member-same-length-4 : (t : ℕ) → member-lts.Need-same-length-4 (
-  bump-reads.Asked,
-  bump-reads.Learnt,
-  eat-reads.Asked,
-  eat-reads.Learnt,
-  meta-member-reads.Asked,
-  meta-member-reads.Learnt,
-  name-member-reads.Asked,
-  name-member-reads.Learnt,
-  expr-below t,
-  expr.Post,
-  expect-reads.Asked,
-  expect-reads.Learnt,
-  member-record-reads.Asked,
-  member-record-reads.Learnt,
-) (member-at t) member.Post
-member-same-length-4 t c = (c .before .before .before .before .before .before .before .before .before .expr .kept .1 .1 .1 .0)
-
-member-same-length-5 : (t : ℕ) → member-lts.Need-same-length-5 (
-  bump-reads.Asked,
-  bump-reads.Learnt,
-  eat-reads.Asked,
-  eat-reads.Learnt,
-  meta-member-reads.Asked,
-  meta-member-reads.Learnt,
-  name-member-reads.Asked,
-  name-member-reads.Learnt,
-  expr-below t,
-  expr.Post,
-  expect-reads.Asked,
-  expect-reads.Learnt,
-  member-record-reads.Asked,
-  member-record-reads.Learnt,
-) (member-at t) member.Post
-member-same-length-5 t c = (c .before .before .before .before .before .before .before .before .before .expr .kept .1 .1 .1 .1 .0)
-
-member-returns-5 : (t : ℕ) → member-lts.Need-returns-5 (
-  bump-reads.Asked,
-  bump-reads.Learnt,
-  eat-reads.Asked,
-  eat-reads.Learnt,
-  meta-member-reads.Asked,
-  meta-member-reads.Learnt,
-  name-member-reads.Asked,
-  name-member-reads.Learnt,
-  expr-below t,
-  expr.Post,
-  expect-reads.Asked,
-  expect-reads.Learnt,
-  member-record-reads.Asked,
-  member-record-reads.Learnt,
-) (member-at t) member.Post
-member-returns-5 t c = let c₁ = c .before in let c₂ = c₁ .before .before .before .before .before .before .before .before in let c₃ = c₂ .before .before .before .before .before in let c₄ = c₃ .before .before in let c₅ = c₄ .before .before in let c₆ = c₅ .before .before .before in let c₇ = c₆ .before .before in sym (pm.member-failed _ _ _ _ _ _ _ (via asMoved (c₇ .bump .ensures _ _) (c₆ .opened .given .1)) (via asTest (c₅ .eat .ensures _ _ _ _) (c₄ .meta2 .given .1)) (c₃ .if1 .left) (via asBuilt (c₂ .expr .ensures) (c₁ .read2 .given .1)))
-
-member-expect-requires : (t : ℕ) → member-lts.Need-expect-requires (
-  bump-reads.Asked,
-  bump-reads.Learnt,
-  eat-reads.Asked,
-  eat-reads.Learnt,
-  meta-member-reads.Asked,
-  meta-member-reads.Learnt,
-  name-member-reads.Asked,
-  name-member-reads.Learnt,
-  expr-below t,
-  expr.Post,
-  expect-reads.Asked,
-  expect-reads.Learnt,
-  member-record-reads.Asked,
-  member-record-reads.Learnt,
-) (member-at t) member.Post
-member-expect-requires t c κs = tt
-
-member-enum-known-closed : (t : ℕ) → member-lts.Need-enum-known-closed (
-  bump-reads.Asked,
-  bump-reads.Learnt,
-  eat-reads.Asked,
-  eat-reads.Learnt,
-  meta-member-reads.Asked,
-  meta-member-reads.Learnt,
-  name-member-reads.Asked,
-  name-member-reads.Learnt,
-  expr-below t,
-  expr.Post,
-  expect-reads.Asked,
-  expect-reads.Learnt,
-  member-record-reads.Asked,
-  member-record-reads.Learnt,
-) (member-at t) member.Post
-member-enum-known-closed t c = c .match4 .keys1
-
-member-member-record-requires : (t : ℕ) → member-lts.Need-member-record-requires (
-  bump-reads.Asked,
-  bump-reads.Learnt,
-  eat-reads.Asked,
-  eat-reads.Learnt,
-  meta-member-reads.Asked,
-  meta-member-reads.Learnt,
-  name-member-reads.Asked,
-  name-member-reads.Learnt,
-  expr-below t,
-  expr.Post,
-  expect-reads.Asked,
-  expect-reads.Learnt,
-  member-record-reads.Asked,
-  member-record-reads.Learnt,
-) (member-at t) member.Post
-member-member-record-requires t c κs = tt
-
-member-enum-known-closed-2 : (t : ℕ) → member-lts.Need-enum-known-closed-2 (
-  bump-reads.Asked,
-  bump-reads.Learnt,
-  eat-reads.Asked,
-  eat-reads.Learnt,
-  meta-member-reads.Asked,
-  meta-member-reads.Learnt,
-  name-member-reads.Asked,
-  name-member-reads.Learnt,
-  expr-below t,
-  expr.Post,
-  expect-reads.Asked,
-  expect-reads.Learnt,
-  member-record-reads.Asked,
-  member-record-reads.Learnt,
-) (member-at t) member.Post
-member-enum-known-closed-2 t c = c .match4 .keys2
-
-member-same-length-6 : (t : ℕ) → member-lts.Need-same-length-6 (
-  bump-reads.Asked,
-  bump-reads.Learnt,
-  eat-reads.Asked,
-  eat-reads.Learnt,
-  meta-member-reads.Asked,
-  meta-member-reads.Learnt,
-  name-member-reads.Asked,
-  name-member-reads.Learnt,
-  expr-below t,
-  expr.Post,
-  expect-reads.Asked,
-  expect-reads.Learnt,
-  member-record-reads.Asked,
-  member-record-reads.Learnt,
-) (member-at t) member.Post
-member-same-length-6 t c = (c .before .before .member-record .kept .0) ∙ (c .before .before .before .before .before .before .before .before .before .before .before .before .before .before .before .before .before .before .expr .kept .1 .1 .0)
-
-member-same-length-7 : (t : ℕ) → member-lts.Need-same-length-7 (
-  bump-reads.Asked,
-  bump-reads.Learnt,
-  eat-reads.Asked,
-  eat-reads.Learnt,
-  meta-member-reads.Asked,
-  meta-member-reads.Learnt,
-  name-member-reads.Asked,
-  name-member-reads.Learnt,
-  expr-below t,
-  expr.Post,
-  expect-reads.Asked,
-  expect-reads.Learnt,
-  member-record-reads.Asked,
-  member-record-reads.Learnt,
-) (member-at t) member.Post
-member-same-length-7 t c = (c .before .before .before .before .before .before .before .before .before .before .before .before .before .before .before .before .before .before .expr .kept .1 .1 .1 .0)
-
-member-same-length-8 : (t : ℕ) → member-lts.Need-same-length-8 (
-  bump-reads.Asked,
-  bump-reads.Learnt,
-  eat-reads.Asked,
-  eat-reads.Learnt,
-  meta-member-reads.Asked,
-  meta-member-reads.Learnt,
-  name-member-reads.Asked,
-  name-member-reads.Learnt,
-  expr-below t,
-  expr.Post,
-  expect-reads.Asked,
-  expect-reads.Learnt,
-  member-record-reads.Asked,
-  member-record-reads.Learnt,
-) (member-at t) member.Post
-member-same-length-8 t c = (c .before .before .before .before .before .before .before .before .before .before .before .before .before .before .before .before .before .before .expr .kept .1 .1 .1 .1 .0)
-
-member-returns-6 : (t : ℕ) → member-lts.Need-returns-6 (
-  bump-reads.Asked,
-  bump-reads.Learnt,
-  eat-reads.Asked,
-  eat-reads.Learnt,
-  meta-member-reads.Asked,
-  meta-member-reads.Learnt,
-  name-member-reads.Asked,
-  name-member-reads.Learnt,
-  expr-below t,
-  expr.Post,
-  expect-reads.Asked,
-  expect-reads.Learnt,
-  member-record-reads.Asked,
-  member-record-reads.Learnt,
-) (member-at t) member.Post
-member-returns-6 t c = let c₁ = c .before .before in let c₂ = c₁ .before .before .before in let c₃ = c₂ .before .before in let c₄ = c₃ .before .before .before in let c₅ = c₄ .before .before .before .before .before .before .before .before in let c₆ = c₅ .before .before .before .before .before in let c₇ = c₆ .before .before in let c₈ = c₇ .before .before in let c₉ = c₈ .before .before .before in let c₁₀ = c₉ .before .before in c₁ .member-record .ensures _ _ _ ∙ sym (pm.member-on _ _ _ _ _ _ _ (via asMoved (c₁₀ .bump .ensures _ _) (c₉ .opened .given .1)) (via asTest (c₈ .eat .ensures _ _ _ _) (c₇ .meta2 .given .1)) (c₆ .if1 .left) (via asBuilt (c₅ .expr .ensures) (c₄ .read .given .1)) (via asMoved (c₃ .expect .ensures _ _ _ _) (c₂ .closed .given .1)))
-
-member-same-length-9 : (t : ℕ) → member-lts.Need-same-length-9 (
-  bump-reads.Asked,
-  bump-reads.Learnt,
-  eat-reads.Asked,
-  eat-reads.Learnt,
-  meta-member-reads.Asked,
-  meta-member-reads.Learnt,
-  name-member-reads.Asked,
-  name-member-reads.Learnt,
-  expr-below t,
-  expr.Post,
-  expect-reads.Asked,
-  expect-reads.Learnt,
-  member-record-reads.Asked,
-  member-record-reads.Learnt,
-) (member-at t) member.Post
-member-same-length-9 t c = (c .before .before .before .before .before .before .before .before .before .before .before .before .before .before .expr .kept .1 .1 .0)
-
-member-same-length-10 : (t : ℕ) → member-lts.Need-same-length-10 (
-  bump-reads.Asked,
-  bump-reads.Learnt,
-  eat-reads.Asked,
-  eat-reads.Learnt,
-  meta-member-reads.Asked,
-  meta-member-reads.Learnt,
-  name-member-reads.Asked,
-  name-member-reads.Learnt,
-  expr-below t,
-  expr.Post,
-  expect-reads.Asked,
-  expect-reads.Learnt,
-  member-record-reads.Asked,
-  member-record-reads.Learnt,
-) (member-at t) member.Post
-member-same-length-10 t c = (c .before .before .before .before .before .before .before .before .before .before .before .before .before .before .expr .kept .1 .1 .1 .0)
-
-member-same-length-11 : (t : ℕ) → member-lts.Need-same-length-11 (
-  bump-reads.Asked,
-  bump-reads.Learnt,
-  eat-reads.Asked,
-  eat-reads.Learnt,
-  meta-member-reads.Asked,
-  meta-member-reads.Learnt,
-  name-member-reads.Asked,
-  name-member-reads.Learnt,
-  expr-below t,
-  expr.Post,
-  expect-reads.Asked,
-  expect-reads.Learnt,
-  member-record-reads.Asked,
-  member-record-reads.Learnt,
-) (member-at t) member.Post
-member-same-length-11 t c = (c .before .before .before .before .before .before .before .before .before .before .before .before .before .before .expr .kept .1 .1 .1 .1 .0)
-
-member-returns-7 : (t : ℕ) → member-lts.Need-returns-7 (
-  bump-reads.Asked,
-  bump-reads.Learnt,
-  eat-reads.Asked,
-  eat-reads.Learnt,
-  meta-member-reads.Asked,
-  meta-member-reads.Learnt,
-  name-member-reads.Asked,
-  name-member-reads.Learnt,
-  expr-below t,
-  expr.Post,
-  expect-reads.Asked,
-  expect-reads.Learnt,
-  member-record-reads.Asked,
-  member-record-reads.Learnt,
-) (member-at t) member.Post
-member-returns-7 t c = let c₁ = c .before in let c₂ = c₁ .before .before in let c₃ = c₂ .before .before .before in let c₄ = c₃ .before .before .before .before .before .before .before .before in let c₅ = c₄ .before .before .before .before .before in let c₆ = c₅ .before .before in let c₇ = c₆ .before .before in let c₈ = c₇ .before .before .before in let c₉ = c₈ .before .before in sym (pm.member-open _ _ _ _ _ _ _ (via asMoved (c₉ .bump .ensures _ _) (c₈ .opened .given .1)) (via asTest (c₇ .eat .ensures _ _ _ _) (c₆ .meta2 .given .1)) (c₅ .if1 .left) (via asBuilt (c₄ .expr .ensures) (c₃ .read .given .1)) (via asMoved (c₂ .expect .ensures _ _ _ _) (c₁ .closed2 .given .1)))
-
 op-current-kind-requires : (t : ℕ) → op-lts.Need-current-kind-requires (
   current-kind-reads.Asked,
   current-kind-reads.Learnt,
@@ -14644,198 +14464,6 @@ op-returns-7 : (t : ℕ) → op-lts.Need-returns-7 (
 ) (op-at t) op.Post
 op-returns-7 t c = let c₁ = c .before in let c₂ = c₁ .before .before .before .before in let c₃ = c₂ .before in let c₄ = c₃ .before in let c₅ = c₄ .before .before .before in let c₆ = c₅ .before .before .before .before .before .before .before .before in let c₇ = c₆ .before .before .before .before .before in let c₈ = c₇ .before .before in let c₉ = c₈ .before .before in let c₁₀ = c₉ .before in let c₁₁ = c₁₀ .before in let c₁₂ = c₁₁ .before .before in let c₁₃ = c₁₂ .before .before in let c₁₄ = c₁₃ .before in sym (pc.infix-lost _ _ _ _ _ _ _ (c₁₄ .current-kind .ensures) (sym (c₁₃ .bin-op .ensures) ∙ c₁₂ .found .given .1) (c₁₁ .precedence .ensures) (c₁₀ .if1 .left) (via asMoved (c₉ .bump .ensures _ _) (c₈ .taken .given .1)) (c₇ .if2 .left) (via asParsed (c₆ .prec .ensures) (c₅ .right .given .1)) (c₄ .link-of .ensures) (c₃ .link-of2 .ensures) (via asBuilt (c₂ .couple .ensures _ _ _) (c₁ .built2 .given .1)))
 
-path-question-requires : (t : ℕ) → path-lts.Need-question-requires (
-  question-reads.Asked,
-  question-reads.Learnt,
-  pick-reads.Asked,
-  pick-reads.Learnt,
-  no-member-reads.Asked,
-  no-member-reads.Learnt,
-  member-below t,
-  member.Post,
-) (path-at t) path.Post
-path-question-requires t c κs = tt
-
-path-enum-known-asked : (t : ℕ) → path-lts.Need-enum-known-asked (
-  question-reads.Asked,
-  question-reads.Learnt,
-  pick-reads.Asked,
-  pick-reads.Learnt,
-  no-member-reads.Asked,
-  no-member-reads.Learnt,
-  member-below t,
-  member.Post,
-) (path-at t) path.Post
-path-enum-known-asked t c = c .match .keys1
-
-path-enum-known-asked-2 : (t : ℕ) → path-lts.Need-enum-known-asked-2 (
-  question-reads.Asked,
-  question-reads.Learnt,
-  pick-reads.Asked,
-  pick-reads.Learnt,
-  no-member-reads.Asked,
-  no-member-reads.Learnt,
-  member-below t,
-  member.Post,
-) (path-at t) path.Post
-path-enum-known-asked-2 t c = c .match .keys2
-
-path-returns : (t : ℕ) → path-lts.Need-returns (
-  question-reads.Asked,
-  question-reads.Learnt,
-  pick-reads.Asked,
-  pick-reads.Learnt,
-  no-member-reads.Asked,
-  no-member-reads.Learnt,
-  member-below t,
-  member.Post,
-) (path-at t) path.Post
-path-returns t c = sym (pm.access-failed _ _ _ _ _ (via asAsked (c .before .before .before .question .ensures _ _ _ _) (c .before .asked2 .given .1)))
-
-path-slice-aggregate-pick : (t : ℕ) → path-lts.Need-slice-aggregate-pick (
-  question-reads.Asked,
-  question-reads.Learnt,
-  pick-reads.Asked,
-  pick-reads.Learnt,
-  no-member-reads.Asked,
-  no-member-reads.Learnt,
-  member-below t,
-  member.Post,
-) (path-at t) path.Post
-path-slice-aggregate-pick t c = search needs
-
-path-pick-requires : (t : ℕ) → path-lts.Need-pick-requires (
-  question-reads.Asked,
-  question-reads.Learnt,
-  pick-reads.Asked,
-  pick-reads.Learnt,
-  no-member-reads.Asked,
-  no-member-reads.Learnt,
-  member-below t,
-  member.Post,
-) (path-at t) path.Post
-path-pick-requires t c κs = tt
-
-path-enum-known-picked : (t : ℕ) → path-lts.Need-enum-known-picked (
-  question-reads.Asked,
-  question-reads.Learnt,
-  pick-reads.Asked,
-  pick-reads.Learnt,
-  no-member-reads.Asked,
-  no-member-reads.Learnt,
-  member-below t,
-  member.Post,
-) (path-at t) path.Post
-path-enum-known-picked t c = c .match2 .keys1
-
-path-enum-known-picked-2 : (t : ℕ) → path-lts.Need-enum-known-picked-2 (
-  question-reads.Asked,
-  question-reads.Learnt,
-  pick-reads.Asked,
-  pick-reads.Learnt,
-  no-member-reads.Asked,
-  no-member-reads.Learnt,
-  member-below t,
-  member.Post,
-) (path-at t) path.Post
-path-enum-known-picked-2 t c = c .match2 .keys2
-
-path-returns-2 : (t : ℕ) → path-lts.Need-returns-2 (
-  question-reads.Asked,
-  question-reads.Learnt,
-  pick-reads.Asked,
-  pick-reads.Learnt,
-  no-member-reads.Asked,
-  no-member-reads.Learnt,
-  member-below t,
-  member.Post,
-) (path-at t) path.Post
-path-returns-2 t c = let c₁ = c .before in let c₂ = c₁ .before .before in let c₃ = c₂ .before .before .before .before in let c₄ = c₃ .before .before in sym (pm.access-full _ _ _ _ _ (via asAsked (c₄ .question .ensures _ _ _ _) (c₃ .asked .given .1)) (via asPicked (c₂ .pick .ensures _ _ _ _ _) (c₁ .picked2 .given .1)))
-
-path-no-member-requires : (t : ℕ) → path-lts.Need-no-member-requires (
-  question-reads.Asked,
-  question-reads.Learnt,
-  pick-reads.Asked,
-  pick-reads.Learnt,
-  no-member-reads.Asked,
-  no-member-reads.Learnt,
-  member-below t,
-  member.Post,
-) (path-at t) path.Post
-path-no-member-requires t c κs = tt
-
-path-returns-3 : (t : ℕ) → path-lts.Need-returns-3 (
-  question-reads.Asked,
-  question-reads.Learnt,
-  pick-reads.Asked,
-  pick-reads.Learnt,
-  no-member-reads.Asked,
-  no-member-reads.Learnt,
-  member-below t,
-  member.Post,
-) (path-at t) path.Post
-path-returns-3 t c = let c₁ = c .before in let c₂ = c₁ .before .before in let c₃ = c₂ .before .before in let c₄ = c₃ .before .before .before .before in let c₅ = c₄ .before .before in c .no-member .ensures _ _ _ ∙ sym (pm.access-none _ _ _ _ _ (via asAsked (c₅ .question .ensures _ _ _ _) (c₄ .asked .given .1)) (via asPicked (c₃ .pick .ensures _ _ _ _ _) (c₂ .picked .given .1)) (c₁ .if1 .taken))
-
-path-member-requires : (t : ℕ) → path-lts.Need-member-requires (
-  question-reads.Asked,
-  question-reads.Learnt,
-  pick-reads.Asked,
-  pick-reads.Learnt,
-  no-member-reads.Asked,
-  no-member-reads.Learnt,
-  member-below t,
-  member.Post,
-) (path-at t) path.Post
-path-member-requires t c κs = (omega (arith, c .before .before .before .before .before .before .before .before .before .before .before .before .before .before .before .before .before .before .before .before .before .before .pre .0), tt)
-
-path-same-length : (t : ℕ) → path-lts.Need-same-length (
-  question-reads.Asked,
-  question-reads.Learnt,
-  pick-reads.Asked,
-  pick-reads.Learnt,
-  no-member-reads.Asked,
-  no-member-reads.Learnt,
-  member-below t,
-  member.Post,
-) (path-at t) path.Post
-path-same-length t c = (c .before .before .before .before .before .before .member .kept .1 .1 .0)
-
-path-same-length-2 : (t : ℕ) → path-lts.Need-same-length-2 (
-  question-reads.Asked,
-  question-reads.Learnt,
-  pick-reads.Asked,
-  pick-reads.Learnt,
-  no-member-reads.Asked,
-  no-member-reads.Learnt,
-  member-below t,
-  member.Post,
-) (path-at t) path.Post
-path-same-length-2 t c = (c .before .before .before .before .before .before .member .kept .1 .1 .1 .0)
-
-path-same-length-3 : (t : ℕ) → path-lts.Need-same-length-3 (
-  question-reads.Asked,
-  question-reads.Learnt,
-  pick-reads.Asked,
-  pick-reads.Learnt,
-  no-member-reads.Asked,
-  no-member-reads.Learnt,
-  member-below t,
-  member.Post,
-) (path-at t) path.Post
-path-same-length-3 t c = (c .before .before .before .before .before .before .member .kept .1 .1 .1 .1 .0)
-
-path-returns-4 : (t : ℕ) → path-lts.Need-returns-4 (
-  question-reads.Asked,
-  question-reads.Learnt,
-  pick-reads.Asked,
-  pick-reads.Learnt,
-  no-member-reads.Asked,
-  no-member-reads.Learnt,
-  member-below t,
-  member.Post,
-) (path-at t) path.Post
-path-returns-4 t c = let c₁ = c .before .before .before .before .before .before in let c₂ = c₁ .before .before .before .before .before in let c₃ = c₂ .before .before in let c₄ = c₃ .before .before in let c₅ = c₄ .before .before .before .before in let c₆ = c₅ .before .before in c₁ .member .ensures ∙ sym (pm.access-on _ _ _ _ _ (via asAsked (c₆ .question .ensures _ _ _ _) (c₅ .asked .given .1)) (via asPicked (c₄ .pick .ensures _ _ _ _ _) (c₃ .picked .given .1)) (c₂ .if1 .left))
-
 plain-start-range-requires : (t : ℕ) → plain-lts.Need-start-range-requires (
   start-range-reads.Asked,
   start-range-reads.Learnt,
@@ -15195,8 +14823,8 @@ post-eat-requires : (t : ℕ) → post-lts.Need-eat-requires (
   call.Post,
   braced-reads.Asked,
   braced-reads.Learnt,
-  path-below t,
-  path.Post,
+  access-below t,
+  access.Post,
   link-of-reads.Asked,
   link-of-reads.Learnt,
   block-below t,
@@ -15213,8 +14841,8 @@ post-enum-known-opened : (t : ℕ) → post-lts.Need-enum-known-opened (
   call.Post,
   braced-reads.Asked,
   braced-reads.Learnt,
-  path-below t,
-  path.Post,
+  access-below t,
+  access.Post,
   link-of-reads.Asked,
   link-of-reads.Learnt,
   block-below t,
@@ -15231,8 +14859,8 @@ post-call-requires : (t : ℕ) → post-lts.Need-call-requires (
   call.Post,
   braced-reads.Asked,
   braced-reads.Learnt,
-  path-below t,
-  path.Post,
+  access-below t,
+  access.Post,
   link-of-reads.Asked,
   link-of-reads.Learnt,
   block-below t,
@@ -15249,8 +14877,8 @@ post-same-length : (t : ℕ) → post-lts.Need-same-length (
   call.Post,
   braced-reads.Asked,
   braced-reads.Learnt,
-  path-below t,
-  path.Post,
+  access-below t,
+  access.Post,
   link-of-reads.Asked,
   link-of-reads.Learnt,
   block-below t,
@@ -15267,8 +14895,8 @@ post-same-length-2 : (t : ℕ) → post-lts.Need-same-length-2 (
   call.Post,
   braced-reads.Asked,
   braced-reads.Learnt,
-  path-below t,
-  path.Post,
+  access-below t,
+  access.Post,
   link-of-reads.Asked,
   link-of-reads.Learnt,
   block-below t,
@@ -15285,8 +14913,8 @@ post-same-length-3 : (t : ℕ) → post-lts.Need-same-length-3 (
   call.Post,
   braced-reads.Asked,
   braced-reads.Learnt,
-  path-below t,
-  path.Post,
+  access-below t,
+  access.Post,
   link-of-reads.Asked,
   link-of-reads.Learnt,
   block-below t,
@@ -15303,8 +14931,8 @@ post-returns : (t : ℕ) → post-lts.Need-returns (
   call.Post,
   braced-reads.Asked,
   braced-reads.Learnt,
-  path-below t,
-  path.Post,
+  access-below t,
+  access.Post,
   link-of-reads.Asked,
   link-of-reads.Learnt,
   block-below t,
@@ -15321,8 +14949,8 @@ post-enum-known-opened-2 : (t : ℕ) → post-lts.Need-enum-known-opened-2 (
   call.Post,
   braced-reads.Asked,
   braced-reads.Learnt,
-  path-below t,
-  path.Post,
+  access-below t,
+  access.Post,
   link-of-reads.Asked,
   link-of-reads.Learnt,
   block-below t,
@@ -15339,8 +14967,8 @@ post-enum-known-opened-3 : (t : ℕ) → post-lts.Need-enum-known-opened-3 (
   call.Post,
   braced-reads.Asked,
   braced-reads.Learnt,
-  path-below t,
-  path.Post,
+  access-below t,
+  access.Post,
   link-of-reads.Asked,
   link-of-reads.Learnt,
   block-below t,
@@ -15357,8 +14985,8 @@ post-returns-2 : (t : ℕ) → post-lts.Need-returns-2 (
   call.Post,
   braced-reads.Asked,
   braced-reads.Learnt,
-  path-below t,
-  path.Post,
+  access-below t,
+  access.Post,
   link-of-reads.Asked,
   link-of-reads.Learnt,
   block-below t,
@@ -15375,8 +15003,8 @@ post-braced-requires : (t : ℕ) → post-lts.Need-braced-requires (
   call.Post,
   braced-reads.Asked,
   braced-reads.Learnt,
-  path-below t,
-  path.Post,
+  access-below t,
+  access.Post,
   link-of-reads.Asked,
   link-of-reads.Learnt,
   block-below t,
@@ -15393,8 +15021,8 @@ post-enum-known-trailing : (t : ℕ) → post-lts.Need-enum-known-trailing (
   call.Post,
   braced-reads.Asked,
   braced-reads.Learnt,
-  path-below t,
-  path.Post,
+  access-below t,
+  access.Post,
   link-of-reads.Asked,
   link-of-reads.Learnt,
   block-below t,
@@ -15411,8 +15039,8 @@ post-enum-known-trailing-2 : (t : ℕ) → post-lts.Need-enum-known-trailing-2 (
   call.Post,
   braced-reads.Asked,
   braced-reads.Learnt,
-  path-below t,
-  path.Post,
+  access-below t,
+  access.Post,
   link-of-reads.Asked,
   link-of-reads.Learnt,
   block-below t,
@@ -15422,15 +15050,15 @@ post-enum-known-trailing-2 : (t : ℕ) → post-lts.Need-enum-known-trailing-2 (
 ) (post-at t) post.Post
 post-enum-known-trailing-2 t c = c .match2 .keys2
 
-post-path-requires : (t : ℕ) → post-lts.Need-path-requires (
+post-access-requires : (t : ℕ) → post-lts.Need-access-requires (
   eat-reads.Asked,
   eat-reads.Learnt,
   call-below t,
   call.Post,
   braced-reads.Asked,
   braced-reads.Learnt,
-  path-below t,
-  path.Post,
+  access-below t,
+  access.Post,
   link-of-reads.Asked,
   link-of-reads.Learnt,
   block-below t,
@@ -15438,7 +15066,7 @@ post-path-requires : (t : ℕ) → post-lts.Need-path-requires (
   call-record-reads.Asked,
   call-record-reads.Learnt,
 ) (post-at t) post.Post
-post-path-requires t c κs = (omega (arith, c .before .before .before .before .before .before .before .before .before .before .before .before .before .before .before .before .before .before .before .before .pre .0), tt)
+post-access-requires t c κs = (omega (arith, c .before .before .before .before .before .before .before .before .before .before .before .before .before .before .before .before .before .before .before .before .pre .0), tt)
 
 post-same-length-4 : (t : ℕ) → post-lts.Need-same-length-4 (
   eat-reads.Asked,
@@ -15447,8 +15075,8 @@ post-same-length-4 : (t : ℕ) → post-lts.Need-same-length-4 (
   call.Post,
   braced-reads.Asked,
   braced-reads.Learnt,
-  path-below t,
-  path.Post,
+  access-below t,
+  access.Post,
   link-of-reads.Asked,
   link-of-reads.Learnt,
   block-below t,
@@ -15456,7 +15084,7 @@ post-same-length-4 : (t : ℕ) → post-lts.Need-same-length-4 (
   call-record-reads.Asked,
   call-record-reads.Learnt,
 ) (post-at t) post.Post
-post-same-length-4 t c = (c .before .before .before .before .before .before .path .kept .1 .1 .0)
+post-same-length-4 t c = (c .before .before .before .before .before .before .access .kept .1 .1 .0)
 
 post-same-length-5 : (t : ℕ) → post-lts.Need-same-length-5 (
   eat-reads.Asked,
@@ -15465,8 +15093,8 @@ post-same-length-5 : (t : ℕ) → post-lts.Need-same-length-5 (
   call.Post,
   braced-reads.Asked,
   braced-reads.Learnt,
-  path-below t,
-  path.Post,
+  access-below t,
+  access.Post,
   link-of-reads.Asked,
   link-of-reads.Learnt,
   block-below t,
@@ -15474,7 +15102,7 @@ post-same-length-5 : (t : ℕ) → post-lts.Need-same-length-5 (
   call-record-reads.Asked,
   call-record-reads.Learnt,
 ) (post-at t) post.Post
-post-same-length-5 t c = (c .before .before .before .before .before .before .path .kept .1 .1 .1 .0)
+post-same-length-5 t c = (c .before .before .before .before .before .before .access .kept .1 .1 .1 .0)
 
 post-same-length-6 : (t : ℕ) → post-lts.Need-same-length-6 (
   eat-reads.Asked,
@@ -15483,8 +15111,8 @@ post-same-length-6 : (t : ℕ) → post-lts.Need-same-length-6 (
   call.Post,
   braced-reads.Asked,
   braced-reads.Learnt,
-  path-below t,
-  path.Post,
+  access-below t,
+  access.Post,
   link-of-reads.Asked,
   link-of-reads.Learnt,
   block-below t,
@@ -15492,7 +15120,7 @@ post-same-length-6 : (t : ℕ) → post-lts.Need-same-length-6 (
   call-record-reads.Asked,
   call-record-reads.Learnt,
 ) (post-at t) post.Post
-post-same-length-6 t c = (c .before .before .before .before .before .before .path .kept .1 .1 .1 .1 .0)
+post-same-length-6 t c = (c .before .before .before .before .before .before .access .kept .1 .1 .1 .1 .0)
 
 post-returns-3 : (t : ℕ) → post-lts.Need-returns-3 (
   eat-reads.Asked,
@@ -15501,8 +15129,8 @@ post-returns-3 : (t : ℕ) → post-lts.Need-returns-3 (
   call.Post,
   braced-reads.Asked,
   braced-reads.Learnt,
-  path-below t,
-  path.Post,
+  access-below t,
+  access.Post,
   link-of-reads.Asked,
   link-of-reads.Learnt,
   block-below t,
@@ -15510,7 +15138,7 @@ post-returns-3 : (t : ℕ) → post-lts.Need-returns-3 (
   call-record-reads.Asked,
   call-record-reads.Learnt,
 ) (post-at t) post.Post
-post-returns-3 t c = let c₁ = c .before .before .before .before .before .before in let c₂ = c₁ .before .before .before .before .before .before in let c₃ = c₂ .before .before in let c₄ = c₃ .before .before .before in let c₅ = c₄ .before .before in c₁ .path .ensures ∙ sym (pm.suffix-access _ _ _ _ _ _ (via asTest (c₅ .eat .ensures _ _ _ _) (c₄ .opened2 .given .1)) (via asTest (c₃ .braced .ensures _ _ _ _ _) (c₂ .trailing2 .given .1)))
+post-returns-3 t c = let c₁ = c .before .before .before .before .before .before in let c₂ = c₁ .before .before .before .before .before .before in let c₃ = c₂ .before .before in let c₄ = c₃ .before .before .before in let c₅ = c₄ .before .before in c₁ .access .ensures ∙ sym (pm.suffix-access _ _ _ _ _ _ (via asTest (c₅ .eat .ensures _ _ _ _) (c₄ .opened2 .given .1)) (via asTest (c₃ .braced .ensures _ _ _ _ _) (c₂ .trailing2 .given .1)))
 
 post-enum-known-trailing-3 : (t : ℕ) → post-lts.Need-enum-known-trailing-3 (
   eat-reads.Asked,
@@ -15519,8 +15147,8 @@ post-enum-known-trailing-3 : (t : ℕ) → post-lts.Need-enum-known-trailing-3 (
   call.Post,
   braced-reads.Asked,
   braced-reads.Learnt,
-  path-below t,
-  path.Post,
+  access-below t,
+  access.Post,
   link-of-reads.Asked,
   link-of-reads.Learnt,
   block-below t,
@@ -15537,8 +15165,8 @@ post-returns-4 : (t : ℕ) → post-lts.Need-returns-4 (
   call.Post,
   braced-reads.Asked,
   braced-reads.Learnt,
-  path-below t,
-  path.Post,
+  access-below t,
+  access.Post,
   link-of-reads.Asked,
   link-of-reads.Learnt,
   block-below t,
@@ -15555,8 +15183,8 @@ post-link-of-requires : (t : ℕ) → post-lts.Need-link-of-requires (
   call.Post,
   braced-reads.Asked,
   braced-reads.Learnt,
-  path-below t,
-  path.Post,
+  access-below t,
+  access.Post,
   link-of-reads.Asked,
   link-of-reads.Learnt,
   block-below t,
@@ -15573,8 +15201,8 @@ post-block-requires : (t : ℕ) → post-lts.Need-block-requires (
   call.Post,
   braced-reads.Asked,
   braced-reads.Learnt,
-  path-below t,
-  path.Post,
+  access-below t,
+  access.Post,
   link-of-reads.Asked,
   link-of-reads.Learnt,
   block-below t,
@@ -15591,8 +15219,8 @@ post-enum-known-read : (t : ℕ) → post-lts.Need-enum-known-read (
   call.Post,
   braced-reads.Asked,
   braced-reads.Learnt,
-  path-below t,
-  path.Post,
+  access-below t,
+  access.Post,
   link-of-reads.Asked,
   link-of-reads.Learnt,
   block-below t,
@@ -15609,8 +15237,8 @@ post-call-record-requires : (t : ℕ) → post-lts.Need-call-record-requires (
   call.Post,
   braced-reads.Asked,
   braced-reads.Learnt,
-  path-below t,
-  path.Post,
+  access-below t,
+  access.Post,
   link-of-reads.Asked,
   link-of-reads.Learnt,
   block-below t,
@@ -15627,8 +15255,8 @@ post-enum-known-read-2 : (t : ℕ) → post-lts.Need-enum-known-read-2 (
   call.Post,
   braced-reads.Asked,
   braced-reads.Learnt,
-  path-below t,
-  path.Post,
+  access-below t,
+  access.Post,
   link-of-reads.Asked,
   link-of-reads.Learnt,
   block-below t,
@@ -15645,8 +15273,8 @@ post-same-length-7 : (t : ℕ) → post-lts.Need-same-length-7 (
   call.Post,
   braced-reads.Asked,
   braced-reads.Learnt,
-  path-below t,
-  path.Post,
+  access-below t,
+  access.Post,
   link-of-reads.Asked,
   link-of-reads.Learnt,
   block-below t,
@@ -15663,8 +15291,8 @@ post-same-length-8 : (t : ℕ) → post-lts.Need-same-length-8 (
   call.Post,
   braced-reads.Asked,
   braced-reads.Learnt,
-  path-below t,
-  path.Post,
+  access-below t,
+  access.Post,
   link-of-reads.Asked,
   link-of-reads.Learnt,
   block-below t,
@@ -15681,8 +15309,8 @@ post-same-length-9 : (t : ℕ) → post-lts.Need-same-length-9 (
   call.Post,
   braced-reads.Asked,
   braced-reads.Learnt,
-  path-below t,
-  path.Post,
+  access-below t,
+  access.Post,
   link-of-reads.Asked,
   link-of-reads.Learnt,
   block-below t,
@@ -15699,8 +15327,8 @@ post-returns-5 : (t : ℕ) → post-lts.Need-returns-5 (
   call.Post,
   braced-reads.Asked,
   braced-reads.Learnt,
-  path-below t,
-  path.Post,
+  access-below t,
+  access.Post,
   link-of-reads.Asked,
   link-of-reads.Learnt,
   block-below t,
@@ -15717,8 +15345,8 @@ post-same-length-10 : (t : ℕ) → post-lts.Need-same-length-10 (
   call.Post,
   braced-reads.Asked,
   braced-reads.Learnt,
-  path-below t,
-  path.Post,
+  access-below t,
+  access.Post,
   link-of-reads.Asked,
   link-of-reads.Learnt,
   block-below t,
@@ -15735,8 +15363,8 @@ post-same-length-11 : (t : ℕ) → post-lts.Need-same-length-11 (
   call.Post,
   braced-reads.Asked,
   braced-reads.Learnt,
-  path-below t,
-  path.Post,
+  access-below t,
+  access.Post,
   link-of-reads.Asked,
   link-of-reads.Learnt,
   block-below t,
@@ -15753,8 +15381,8 @@ post-same-length-12 : (t : ℕ) → post-lts.Need-same-length-12 (
   call.Post,
   braced-reads.Asked,
   braced-reads.Learnt,
-  path-below t,
-  path.Post,
+  access-below t,
+  access.Post,
   link-of-reads.Asked,
   link-of-reads.Learnt,
   block-below t,
@@ -15771,8 +15399,8 @@ post-returns-6 : (t : ℕ) → post-lts.Need-returns-6 (
   call.Post,
   braced-reads.Asked,
   braced-reads.Learnt,
-  path-below t,
-  path.Post,
+  access-below t,
+  access.Post,
   link-of-reads.Asked,
   link-of-reads.Learnt,
   block-below t,
@@ -16735,6 +16363,282 @@ prim-returns-4 : (t : ℕ) → prim-lts.Need-returns-4 (
   post.Post,
 ) (prim-at t) prim.Post prim-Inv-loop prim-μ-loop
 prim-returns-4 t c = let c₁ = c .before in let c₂ = c₁ .before .before .before .before .before .before .before .before in let c₃ = c₂ .before .before .before .before .before in let c₄ = c₃ .before .before .before .before .before in let c₅ = c₄ .before .before .before .before .before .before .before .before in let c₆ = c₅ .before .before .before .before .before in sym (ao.primary-on _ _ _ (c₆ .start-range .ensures) _ (via asParsed (c₅ .atom .ensures) (c₄ .read .given .1)) ∙ c₃ .loop .inv .0 ∙ turning.loop-failed _ _ (via asChained (c₂ .post .ensures) (c₁ .turned3 .given .1)))
+
+prop-meta-end-requires : (t : ℕ) → prop-lts.Need-meta-end-requires (
+  meta-end-reads.Asked,
+  meta-end-reads.Learnt,
+  ident-reads.Asked,
+  ident-reads.Learnt,
+  expr-below t,
+  expr.Post,
+  expect-reads.Asked,
+  expect-reads.Learnt,
+) (prop-at t) prop.Post
+prop-meta-end-requires t c κs = tt
+
+prop-returns : (t : ℕ) → prop-lts.Need-returns (
+  meta-end-reads.Asked,
+  meta-end-reads.Learnt,
+  ident-reads.Asked,
+  ident-reads.Learnt,
+  expr-below t,
+  expr.Post,
+  expect-reads.Asked,
+  expect-reads.Learnt,
+) (prop-at t) prop.Post
+prop-returns t c = c .meta-end .ensures _ _ _ _ ∙ sym (pm.property-meta _ _ _ _ (c .before .before .if1 .taken))
+
+prop-ident-requires : (t : ℕ) → prop-lts.Need-ident-requires (
+  meta-end-reads.Asked,
+  meta-end-reads.Learnt,
+  ident-reads.Asked,
+  ident-reads.Learnt,
+  expr-below t,
+  expr.Post,
+  expect-reads.Asked,
+  expect-reads.Learnt,
+) (prop-at t) prop.Post
+prop-ident-requires t c κs = tt
+
+prop-same-length : (t : ℕ) → prop-lts.Need-same-length (
+  meta-end-reads.Asked,
+  meta-end-reads.Learnt,
+  ident-reads.Asked,
+  ident-reads.Learnt,
+  expr-below t,
+  expr.Post,
+  expect-reads.Asked,
+  expect-reads.Learnt,
+) (prop-at t) prop.Post
+prop-same-length t c = (c .before .before .ident .kept .1 .0)
+
+prop-returns-2 : (t : ℕ) → prop-lts.Need-returns-2 (
+  meta-end-reads.Asked,
+  meta-end-reads.Learnt,
+  ident-reads.Asked,
+  ident-reads.Learnt,
+  expr-below t,
+  expr.Post,
+  expect-reads.Asked,
+  expect-reads.Learnt,
+) (prop-at t) prop.Post
+prop-returns-2 t c = let c₁ = c .before .before in let c₂ = c₁ .before .before .before in let c₃ = c₂ .before in c₁ .ident .ensures _ _ _ ∙ sym (pm.property-name _ _ _ _ (c₃ .if1 .left) (c₂ .if2 .taken))
+
+prop-expr-requires : (t : ℕ) → prop-lts.Need-expr-requires (
+  meta-end-reads.Asked,
+  meta-end-reads.Learnt,
+  ident-reads.Asked,
+  ident-reads.Learnt,
+  expr-below t,
+  expr.Post,
+  expect-reads.Asked,
+  expect-reads.Learnt,
+) (prop-at t) prop.Post
+prop-expr-requires t c κs = (omega (arith, c .before .before .before .before .before .before .before .before .before .before .before .before .pre .0), tt)
+
+prop-enum-known-read : (t : ℕ) → prop-lts.Need-enum-known-read (
+  meta-end-reads.Asked,
+  meta-end-reads.Learnt,
+  ident-reads.Asked,
+  ident-reads.Learnt,
+  expr-below t,
+  expr.Post,
+  expect-reads.Asked,
+  expect-reads.Learnt,
+) (prop-at t) prop.Post
+prop-enum-known-read t c = c .match .keys1
+
+prop-enum-known-read-2 : (t : ℕ) → prop-lts.Need-enum-known-read-2 (
+  meta-end-reads.Asked,
+  meta-end-reads.Learnt,
+  ident-reads.Asked,
+  ident-reads.Learnt,
+  expr-below t,
+  expr.Post,
+  expect-reads.Asked,
+  expect-reads.Learnt,
+) (prop-at t) prop.Post
+prop-enum-known-read-2 t c = c .match .keys2
+
+prop-same-length-2 : (t : ℕ) → prop-lts.Need-same-length-2 (
+  meta-end-reads.Asked,
+  meta-end-reads.Learnt,
+  ident-reads.Asked,
+  ident-reads.Learnt,
+  expr-below t,
+  expr.Post,
+  expect-reads.Asked,
+  expect-reads.Learnt,
+) (prop-at t) prop.Post
+prop-same-length-2 t c = (c .before .before .before .before .before .before .before .before .before .expr .kept .1 .1 .0)
+
+prop-same-length-3 : (t : ℕ) → prop-lts.Need-same-length-3 (
+  meta-end-reads.Asked,
+  meta-end-reads.Learnt,
+  ident-reads.Asked,
+  ident-reads.Learnt,
+  expr-below t,
+  expr.Post,
+  expect-reads.Asked,
+  expect-reads.Learnt,
+) (prop-at t) prop.Post
+prop-same-length-3 t c = (c .before .before .before .before .before .before .before .before .before .expr .kept .1 .1 .1 .0)
+
+prop-same-length-4 : (t : ℕ) → prop-lts.Need-same-length-4 (
+  meta-end-reads.Asked,
+  meta-end-reads.Learnt,
+  ident-reads.Asked,
+  ident-reads.Learnt,
+  expr-below t,
+  expr.Post,
+  expect-reads.Asked,
+  expect-reads.Learnt,
+) (prop-at t) prop.Post
+prop-same-length-4 t c = (c .before .before .before .before .before .before .before .before .before .expr .kept .1 .1 .1 .1 .0)
+
+prop-returns-3 : (t : ℕ) → prop-lts.Need-returns-3 (
+  meta-end-reads.Asked,
+  meta-end-reads.Learnt,
+  ident-reads.Asked,
+  ident-reads.Learnt,
+  expr-below t,
+  expr.Post,
+  expect-reads.Asked,
+  expect-reads.Learnt,
+) (prop-at t) prop.Post
+prop-returns-3 t c = let c₁ = c .before in let c₂ = c₁ .before .before .before .before .before .before .before .before in let c₃ = c₂ .before .before .before .before .before in let c₄ = c₃ .before in sym (pm.property-failed _ _ _ _ (c₄ .if1 .left) (c₃ .if2 .left) (via asBuilt (c₂ .expr .ensures) (c₁ .read2 .given .1)))
+
+prop-expect-requires : (t : ℕ) → prop-lts.Need-expect-requires (
+  meta-end-reads.Asked,
+  meta-end-reads.Learnt,
+  ident-reads.Asked,
+  ident-reads.Learnt,
+  expr-below t,
+  expr.Post,
+  expect-reads.Asked,
+  expect-reads.Learnt,
+) (prop-at t) prop.Post
+prop-expect-requires t c κs = tt
+
+prop-enum-known-closed : (t : ℕ) → prop-lts.Need-enum-known-closed (
+  meta-end-reads.Asked,
+  meta-end-reads.Learnt,
+  ident-reads.Asked,
+  ident-reads.Learnt,
+  expr-below t,
+  expr.Post,
+  expect-reads.Asked,
+  expect-reads.Learnt,
+) (prop-at t) prop.Post
+prop-enum-known-closed t c = c .match2 .keys1
+
+prop-enum-known-closed-2 : (t : ℕ) → prop-lts.Need-enum-known-closed-2 (
+  meta-end-reads.Asked,
+  meta-end-reads.Learnt,
+  ident-reads.Asked,
+  ident-reads.Learnt,
+  expr-below t,
+  expr.Post,
+  expect-reads.Asked,
+  expect-reads.Learnt,
+) (prop-at t) prop.Post
+prop-enum-known-closed-2 t c = c .match2 .keys2
+
+prop-same-length-5 : (t : ℕ) → prop-lts.Need-same-length-5 (
+  meta-end-reads.Asked,
+  meta-end-reads.Learnt,
+  ident-reads.Asked,
+  ident-reads.Learnt,
+  expr-below t,
+  expr.Post,
+  expect-reads.Asked,
+  expect-reads.Learnt,
+) (prop-at t) prop.Post
+prop-same-length-5 t c = (c .before .before .before .before .before .before .before .before .before .before .before .before .before .before .expr .kept .1 .1 .0)
+
+prop-same-length-6 : (t : ℕ) → prop-lts.Need-same-length-6 (
+  meta-end-reads.Asked,
+  meta-end-reads.Learnt,
+  ident-reads.Asked,
+  ident-reads.Learnt,
+  expr-below t,
+  expr.Post,
+  expect-reads.Asked,
+  expect-reads.Learnt,
+) (prop-at t) prop.Post
+prop-same-length-6 t c = (c .before .before .before .before .before .before .before .before .before .before .before .before .before .before .expr .kept .1 .1 .1 .0)
+
+prop-same-length-7 : (t : ℕ) → prop-lts.Need-same-length-7 (
+  meta-end-reads.Asked,
+  meta-end-reads.Learnt,
+  ident-reads.Asked,
+  ident-reads.Learnt,
+  expr-below t,
+  expr.Post,
+  expect-reads.Asked,
+  expect-reads.Learnt,
+) (prop-at t) prop.Post
+prop-same-length-7 t c = (c .before .before .before .before .before .before .before .before .before .before .before .before .before .before .expr .kept .1 .1 .1 .1 .0)
+
+prop-returns-4 : (t : ℕ) → prop-lts.Need-returns-4 (
+  meta-end-reads.Asked,
+  meta-end-reads.Learnt,
+  ident-reads.Asked,
+  ident-reads.Learnt,
+  expr-below t,
+  expr.Post,
+  expect-reads.Asked,
+  expect-reads.Learnt,
+) (prop-at t) prop.Post
+prop-returns-4 t c = let c₁ = c .before in let c₂ = c₁ .before .before in let c₃ = c₂ .before .before .before in let c₄ = c₃ .before .before .before .before .before .before .before .before in let c₅ = c₄ .before .before .before .before .before in let c₆ = c₅ .before in sym (pm.property-on _ _ _ _ (c₆ .if1 .left) (c₅ .if2 .left) (via asBuilt (c₄ .expr .ensures) (c₃ .read .given .1)) (via asMoved (c₂ .expect .ensures _ _ _ _) (c₁ .closed .given .1)))
+
+prop-same-length-8 : (t : ℕ) → prop-lts.Need-same-length-8 (
+  meta-end-reads.Asked,
+  meta-end-reads.Learnt,
+  ident-reads.Asked,
+  ident-reads.Learnt,
+  expr-below t,
+  expr.Post,
+  expect-reads.Asked,
+  expect-reads.Learnt,
+) (prop-at t) prop.Post
+prop-same-length-8 t c = (c .before .before .before .before .before .before .before .before .before .before .before .before .before .before .expr .kept .1 .1 .0)
+
+prop-same-length-9 : (t : ℕ) → prop-lts.Need-same-length-9 (
+  meta-end-reads.Asked,
+  meta-end-reads.Learnt,
+  ident-reads.Asked,
+  ident-reads.Learnt,
+  expr-below t,
+  expr.Post,
+  expect-reads.Asked,
+  expect-reads.Learnt,
+) (prop-at t) prop.Post
+prop-same-length-9 t c = (c .before .before .before .before .before .before .before .before .before .before .before .before .before .before .expr .kept .1 .1 .1 .0)
+
+prop-same-length-10 : (t : ℕ) → prop-lts.Need-same-length-10 (
+  meta-end-reads.Asked,
+  meta-end-reads.Learnt,
+  ident-reads.Asked,
+  ident-reads.Learnt,
+  expr-below t,
+  expr.Post,
+  expect-reads.Asked,
+  expect-reads.Learnt,
+) (prop-at t) prop.Post
+prop-same-length-10 t c = (c .before .before .before .before .before .before .before .before .before .before .before .before .before .before .expr .kept .1 .1 .1 .1 .0)
+
+prop-returns-5 : (t : ℕ) → prop-lts.Need-returns-5 (
+  meta-end-reads.Asked,
+  meta-end-reads.Learnt,
+  ident-reads.Asked,
+  ident-reads.Learnt,
+  expr-below t,
+  expr.Post,
+  expect-reads.Asked,
+  expect-reads.Learnt,
+) (prop-at t) prop.Post
+prop-returns-5 t c = let c₁ = c .before in let c₂ = c₁ .before .before in let c₃ = c₂ .before .before .before in let c₄ = c₃ .before .before .before .before .before .before .before .before in let c₅ = c₄ .before .before .before .before .before in let c₆ = c₅ .before in sym (pm.property-open _ _ _ _ (c₆ .if1 .left) (c₅ .if2 .left) (via asBuilt (c₄ .expr .ensures) (c₃ .read .given .1)) (via asMoved (c₂ .expect .ensures _ _ _ _) (c₁ .closed2 .given .1)))
 
 rhs-expr-requires : (t : ℕ) → rhs-lts.Need-expr-requires (
   expr-below t,
@@ -20696,10 +20600,11 @@ unary-returns-7 : (t : ℕ) → unary-lts.Need-returns-7 (
 ) (unary-at t) unary.Post
 unary-returns-7 t c = let c₁ = c .before in let c₂ = c₁ .before .before .before .before in let c₃ = c₂ .before in let c₄ = c₃ .before .before .before in let c₅ = c₄ .before .before .before .before .before .before .before .before in let c₆ = c₅ .before .before .before .before .before .before in let c₇ = c₆ .before .before in let c₈ = c₇ .before in let c₉ = c₈ .before in let c₁₀ = c₉ .before in let c₁₁ = c₁₀ .before .before in let c₁₂ = c₁₁ .before .before in let c₁₃ = c₁₂ .before .before .before in sym (pc.unary-lost _ _ _ _ (c₁₃ .start-range .ensures) (via asPicked (c₁₂ .pick .ensures _ _ _ _ _) (c₁₁ .picked .given .1)) (c₁₀ .if1 .left) (c₉ .if2 .left) (via asMoved (c₇ .bump .ensures _ _) (c₆ .taken .given .1)) (via asParsed (c₅ .prim2 .ensures) (c₄ .read .given .1)) (c₈ .current-kind .ensures) (c₃ .link-of .ensures) (via asBuilt (c₂ .close .ensures _ _ _) (c₁ .built2 .given .1)))
 
-pub +anon+arms+assign+atom+block+brace+call+case+cond+def+each+expr+exprs+form+func+glo+group+hand+head+item+items+key+lhs+loops+many+member+op+path+plain+post+prec+prim+rhs+set+stmt+table+tried+typed+unary-spec :
+pub +access+anon+arms+assign+atom+block+brace+call+case+cond+def+each+expr+exprs+form+func+glo+group+hand+head+item+items+key+lhs+loops+many+op+plain+post+prec+prim+prop+rhs+set+stmt+table+tried+typed+unary-spec :
     {M : Type 1} → statement M
-+anon+arms+assign+atom+block+brace+call+case+cond+def+each+expr+exprs+form+func+glo+group+hand+head+item+items+key+lhs+loops+many+member+op+path+plain+post+prec+prim+rhs+set+stmt+table+tried+typed+unary-spec =
++access+anon+arms+assign+atom+block+brace+call+case+cond+def+each+expr+exprs+form+func+glo+group+hand+head+item+items+key+lhs+loops+many+op+plain+post+prec+prim+prop+rhs+set+stmt+table+tried+typed+unary-spec =
     close
+    μ-access
     μ-anon
     μ-arms
     μ-assign
@@ -20725,13 +20630,12 @@ pub +anon+arms+assign+atom+block+brace+call+case+cond+def+each+expr+exprs+form+f
     μ-lhs
     μ-loops
     μ-many
-    μ-member
     μ-op
-    μ-path
     μ-plain
     μ-post
     μ-prec
     μ-prim
+    μ-prop
     μ-rhs
     μ-set
     μ-stmt
@@ -20739,6 +20643,49 @@ pub +anon+arms+assign+atom+block+brace+call+case+cond+def+each+expr+exprs+form+f
     μ-tried
     μ-typed
     μ-unary
+    (λ t. access-lts.spec (
+      question-reads.Asked,
+      question-reads.Learnt,
+      pick-reads.Asked,
+      pick-reads.Learnt,
+      no-member-reads.Asked,
+      no-member-reads.Learnt,
+      pound-reads.Asked,
+      pound-reads.Learnt,
+      prop-below t,
+      prop.Post,
+      member-record-reads.Asked,
+      member-record-reads.Learnt,
+    )
+    (access-at t)
+    access.Post
+    (access-question-requires t)
+    (access-enum-known-asked t)
+    (access-enum-known-asked-2 t)
+    (access-returns t)
+    (access-slice-aggregate-pick t)
+    (access-pick-requires t)
+    (access-enum-known-picked t)
+    (access-enum-known-picked-2 t)
+    (access-returns-2 t)
+    (access-no-member-requires t)
+    (access-returns-3 t)
+    (access-pound-requires t)
+    (access-enum-known-marked t)
+    (access-enum-known-marked-2 t)
+    (access-returns-4 t)
+    (access-prop-requires t)
+    (access-enum-known-read t)
+    (access-member-record-requires t)
+    (access-enum-known-read-2 t)
+    (access-same-length t)
+    (access-same-length-2 t)
+    (access-same-length-3 t)
+    (access-returns-5 t)
+    (access-same-length-4 t)
+    (access-same-length-5 t)
+    (access-same-length-6 t)
+    (access-returns-6 t))
     (λ t. anon-lts.spec (
       func-below t,
       func.Post,
@@ -21900,58 +21847,6 @@ pub +anon+arms+assign+atom+block+brace+call+case+cond+def+each+expr+exprs+form+f
     (many-same-length-17 t)
     (many-same-length-18 t)
     (many-returns-7 t))
-    (λ t. member-lts.spec (
-      bump-reads.Asked,
-      bump-reads.Learnt,
-      eat-reads.Asked,
-      eat-reads.Learnt,
-      meta-member-reads.Asked,
-      meta-member-reads.Learnt,
-      name-member-reads.Asked,
-      name-member-reads.Learnt,
-      expr-below t,
-      expr.Post,
-      expect-reads.Asked,
-      expect-reads.Learnt,
-      member-record-reads.Asked,
-      member-record-reads.Learnt,
-    )
-    (member-at t)
-    member.Post
-    (member-bump-requires t)
-    (member-enum-known-opened t)
-    (member-enum-known-opened-2 t)
-    (member-returns t)
-    (member-eat-requires t)
-    (member-enum-known-meta t)
-    (member-meta-member-requires t)
-    (member-same-length t)
-    (member-returns-2 t)
-    (member-enum-known-meta-2 t)
-    (member-enum-known-meta-3 t)
-    (member-returns-3 t)
-    (member-name-member-requires t)
-    (member-same-length-2 t)
-    (member-returns-4 t)
-    (member-expr-requires t)
-    (member-enum-known-read t)
-    (member-enum-known-read-2 t)
-    (member-same-length-3 t)
-    (member-same-length-4 t)
-    (member-same-length-5 t)
-    (member-returns-5 t)
-    (member-expect-requires t)
-    (member-enum-known-closed t)
-    (member-member-record-requires t)
-    (member-enum-known-closed-2 t)
-    (member-same-length-6 t)
-    (member-same-length-7 t)
-    (member-same-length-8 t)
-    (member-returns-6 t)
-    (member-same-length-9 t)
-    (member-same-length-10 t)
-    (member-same-length-11 t)
-    (member-returns-7 t))
     (λ t. op-lts.spec (
       current-kind-reads.Asked,
       current-kind-reads.Learnt,
@@ -22008,34 +21903,6 @@ pub +anon+arms+assign+atom+block+brace+call+case+cond+def+each+expr+exprs+form+f
     (op-same-length-9 t)
     (op-same-length-10 t)
     (op-returns-7 t))
-    (λ t. path-lts.spec (
-      question-reads.Asked,
-      question-reads.Learnt,
-      pick-reads.Asked,
-      pick-reads.Learnt,
-      no-member-reads.Asked,
-      no-member-reads.Learnt,
-      member-below t,
-      member.Post,
-    )
-    (path-at t)
-    path.Post
-    (path-question-requires t)
-    (path-enum-known-asked t)
-    (path-enum-known-asked-2 t)
-    (path-returns t)
-    (path-slice-aggregate-pick t)
-    (path-pick-requires t)
-    (path-enum-known-picked t)
-    (path-enum-known-picked-2 t)
-    (path-returns-2 t)
-    (path-no-member-requires t)
-    (path-returns-3 t)
-    (path-member-requires t)
-    (path-same-length t)
-    (path-same-length-2 t)
-    (path-same-length-3 t)
-    (path-returns-4 t))
     (λ t. plain-lts.spec (
       start-range-reads.Asked,
       start-range-reads.Learnt,
@@ -22081,8 +21948,8 @@ pub +anon+arms+assign+atom+block+brace+call+case+cond+def+each+expr+exprs+form+f
       call.Post,
       braced-reads.Asked,
       braced-reads.Learnt,
-      path-below t,
-      path.Post,
+      access-below t,
+      access.Post,
       link-of-reads.Asked,
       link-of-reads.Learnt,
       block-below t,
@@ -22105,7 +21972,7 @@ pub +anon+arms+assign+atom+block+brace+call+case+cond+def+each+expr+exprs+form+f
     (post-braced-requires t)
     (post-enum-known-trailing t)
     (post-enum-known-trailing-2 t)
-    (post-path-requires t)
+    (post-access-requires t)
     (post-same-length-4 t)
     (post-same-length-5 t)
     (post-same-length-6 t)
@@ -22222,6 +22089,41 @@ pub +anon+arms+assign+atom+block+brace+call+case+cond+def+each+expr+exprs+form+f
     (prim-same-length-11 t)
     (prim-same-length-12 t)
     (prim-returns-4 t))
+    (λ t. prop-lts.spec (
+      meta-end-reads.Asked,
+      meta-end-reads.Learnt,
+      ident-reads.Asked,
+      ident-reads.Learnt,
+      expr-below t,
+      expr.Post,
+      expect-reads.Asked,
+      expect-reads.Learnt,
+    )
+    (prop-at t)
+    prop.Post
+    (prop-meta-end-requires t)
+    (prop-returns t)
+    (prop-ident-requires t)
+    (prop-same-length t)
+    (prop-returns-2 t)
+    (prop-expr-requires t)
+    (prop-enum-known-read t)
+    (prop-enum-known-read-2 t)
+    (prop-same-length-2 t)
+    (prop-same-length-3 t)
+    (prop-same-length-4 t)
+    (prop-returns-3 t)
+    (prop-expect-requires t)
+    (prop-enum-known-closed t)
+    (prop-enum-known-closed-2 t)
+    (prop-same-length-5 t)
+    (prop-same-length-6 t)
+    (prop-same-length-7 t)
+    (prop-returns-4 t)
+    (prop-same-length-8 t)
+    (prop-same-length-9 t)
+    (prop-same-length-10 t)
+    (prop-returns-5 t))
     (λ t. rhs-lts.spec
     (expr-below t, expr.Post, couple-reads.Asked, couple-reads.Learnt)
     (rhs-at t)
