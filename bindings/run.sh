@@ -1,10 +1,10 @@
 #!/bin/sh
 # Builds the C and the Rust example against the proved library, runs them and holds the bindings' numbers to the library's sources.
 #
-#   bindings/run.sh [LIBRARY]    LIBRARY: another libparser.a than target/staticlib/libparser.a, which `rt staticlib parser` makes
+#   bindings/run.sh [LIBRARY]    LIBRARY: another libparser.a than target/staticlib/libparser.a, which tools/library makes
 #
 # It needs gcc and rustc; with g++ the header is tried as C++ too. The library that `rt` makes is for x86-64: on another machine only the numbers are compared, unless LIBRARY
-# is one for that machine, as oracle/linked/native.sh makes it. Exit status 0: all as the document says; 1: something is not, or no example was built.
+# is one for that machine. Exit status 0: all as the document says; 1: something is not, or no example was built.
 set -eu
 
 here=$(CDPATH= cd "$(dirname "$0")" && pwd)
@@ -20,7 +20,7 @@ fail() {
 for tool in gcc rustc; do
     command -v "$tool" >/dev/null || fail "$tool is not installed"
 done
-[ -f "$library" ] || fail "there is no $library: run 'rt staticlib parser' first"
+[ -f "$library" ] || fail "there is no $library: run tools/library first"
 
 rm -rf "$out"
 mkdir -p "$out"

@@ -1,5 +1,6 @@
 #!/bin/sh
-# answers.sh [FOLDER]: makes the stored answers, into oracle/answers where no folder is named. Needs the programs that build.sh makes.
+# answers.sh [FOLDER]: makes the stored answers, into oracle/answers where no folder is named, and then copies them to crates/replay, which the gate reads:
+# `rt ci` refuses links, so both have them, and check.sh holds them to be alike. Needs the programs that build.sh makes.
 # Three sets, one behind the other: a stream of bundles and the stream of their listings; the same words give the same bytes.
 set -eu
 cd "$(dirname "$0")"
@@ -34,3 +35,7 @@ $bin/answers --counts < "$sets/entry.bundles" > "$sets/entry.listings"
 
 ./sets.py join "$sets" "$folder"
 rm -r "$sets"
+if [ $# -eq 0 ]; then
+    cp "$folder/all.bundles" ../crates/replay/stdin
+    cp "$folder/all.listings" ../crates/replay/stdout
+fi

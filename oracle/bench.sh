@@ -1,8 +1,9 @@
 #!/bin/sh
 # bench.sh [--counts|--across|--native]: the library and the original on the same sheets, as a table in markdown. On x86-64 time and executed instructions for a
-# token, both in one process; --counts leaves the times out. Elsewhere, or with --across, instructions only: the library's are those of
-# an x86-64 program, under the kit's emulator where that is needed, the original's native ones.
-# --native, for Arm: times alone, with the library's module compiled for this machine (linked/native.sh), which is not what a till links.
+# token, both in one process; --counts leaves the times out. With --across instructions only: the library's are those of
+# a program that the kit's own compiler makes, the original's those of a native one.
+# Two ways served the older kit (rattle-kit-5), which ran on Arm too: there the default was --across under its emulator, and --native took
+# times with the library's module compiled for that machine (linked/native.sh), which is not what a till links.
 # PARSER_LIB names the archive (linked/build.sh). Needs LUCIA_SRC for the first build of the oracle, and valgrind, which it installs where it is missing.
 set -eu
 cd "$(dirname "$0")"
@@ -80,6 +81,6 @@ while read -r class size tokens; do
         awk '{ t = $7; printf "| %s | %d | %.0f | %.0f | %.0f | %.0f | %.2f | %.2f | %.2f |\n", $1, $2, $4 / $3, $5 / $3, $6 / $3, t / $3, $4 / t, $5 / t, $6 / t }'
 done < "$room/written"
 echo
-echo "For a token of the list, trivia too. No time is given: under an emulator it says nothing."
+echo "For a token of the list, trivia too. No time is given: under valgrind it says nothing."
 [ "$(uname -m)" = x86_64 ] ||
     echo "These are counts over two instruction sets, x86-64 under the emulator and native $(uname -m): the ratio is a rough guide."

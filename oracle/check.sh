@@ -1,6 +1,6 @@
 #!/bin/sh
 # check.sh: builds the oracle, compares the known sheets, checks demand 3's sum on fresh sheets and on the stored ones, and makes the stored answers again,
-# twice, and the whole answers of some of them, which must come out byte for byte as they are stored. Needs LUCIA_SRC.
+# twice, and the whole answers of some of them, which must come out byte for byte as they are stored, here and in the crates. Needs LUCIA_SRC.
 set -eu
 cd "$(dirname "$0")"
 ./build.sh
@@ -12,6 +12,8 @@ target/bin/known
     target/bin/sheets damaged 13 30000 40
 } | target/bin/readings
 target/bin/readings < answers/all.bundles
+cmp answers/all.bundles ../crates/replay/stdin
+cmp answers/all.listings ../crates/replay/stdout
 for run in 1 2; do
     ./answers.sh "target/again-$run" 2> /dev/null
     for file in all.bundles all.listings sets.txt; do

@@ -1,6 +1,6 @@
 #!/bin/sh
-# stack.sh: how much stack the library needs at the greatest depth, as a table in markdown. On x86-64 beside the original's; elsewhere, or with --across, by
-# an x86-64 program that the kit's own compiler makes (linked/stack.c), under the kit's emulator where that is needed, and without the original's.
+# stack.sh: how much stack the library needs at the greatest depth, as a table in markdown. Beside the original's, or with --across by
+# a program that the kit's own compiler makes (linked/stack.c) and without the original's; on Arm the older kit (rattle-kit-5) had an emulator for that.
 # PARSER_LIB names the archive (linked/build.sh). Needs LUCIA_SRC for the first build of the oracle.
 set -eu
 cd "$(dirname "$0")"

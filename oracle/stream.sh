@@ -1,8 +1,7 @@
 #!/bin/sh
 # stream.sh [COUNT [SEED]]: compares the programs `replay` (listings) and `words` (whole answers, each sheet with sizes and an allowance of its own)
-# with the original over streams of COUNT random sheets, 100,000 where none is said, in parts of 10,000. It needs no linking, so it works on
-# Arm too, where they run under the kit's emulator.
-# REPLAY and WORDS name the programs, otherwise they are those that `rt check replay words` makes. Needs LUCIA_SRC for the first build of the oracle.
+# with the original over streams of COUNT random sheets, 100,000 where none is said, in parts of 10,000. It needs no linking.
+# REPLAY and WORDS name the programs, otherwise they are those that `tools/programs replay words` makes. Needs LUCIA_SRC for the first build of the oracle.
 set -eu
 cd "$(dirname "$0")"
 count=${1:-100000}
@@ -10,7 +9,7 @@ seed=${2:-1}
 replay=${REPLAY:-../target/bin/replay}
 words=${WORDS:-../target/bin/words}
 for program in "$replay" "$words"; do
-    [ -x "$program" ] || { echo "no $program: rt check replay words makes it" >&2; exit 1; }
+    [ -x "$program" ] || { echo "no $program: tools/programs replay words makes it" >&2; exit 1; }
 done
 [ -x target/bin/compare ] || ./build.sh
 bin=target/bin

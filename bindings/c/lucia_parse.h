@@ -1,7 +1,7 @@
 /*
  * The scheme reader for C and C++: one call, lucia_parse, of the proved library libparser.a (x86-64 Linux).
  *
- * Make the library with `rt staticlib parser`; it then is target/staticlib/libparser.a. bindings/run.sh shows how a program is linked with it.
+ * Make the library with `tools/library`; it then is target/staticlib/libparser.a. bindings/run.sh shows how a program is linked with it.
  * docs/LAYOUT.md says what each word of a record means; the numbers below are its numbers, and bindings/run.sh holds them to the library's sources.
  */
 #ifndef LUCIA_PARSE_H
@@ -82,7 +82,7 @@ typedef struct lucia_reading {
  * Nothing else is required: any text, any tokens and any lengths get an answer, and every call ends.
  *
  * The call keeps nothing between calls and asks for no memory but stack, so that threads may call it at once, each on buffers of its own.
- * Stack: 238,912 bytes below the caller's frame at the deepest sheet that was found (docs/ORACLE.md); have 300,000 free.
+ * Stack: 176,424 bytes below the caller's frame at the deepest sheet that was found (docs/ORACLE.md); have 300,000 free.
  */
 uint8_t lucia_parse(const uint8_t *text, size_t text_len,
                     const uint32_t *tokens, size_t token_words,

@@ -1,7 +1,7 @@
 //! The scheme reader for Rust: [`parse`], a safe call of the proved library `libparser.a` (x86-64 Linux), and views of what it leaves in the
 //! buffers.
 //!
-//! Make the library with `rt staticlib parser`; it then is `target/staticlib/libparser.a`. `bindings/run.sh` shows how this file is compiled
+//! Make the library with `tools/library`; it then is `target/staticlib/libparser.a`. `bindings/run.sh` shows how this file is compiled
 //! with it, by `rustc` alone. `docs/LAYOUT.md` says what each word of a record means; the numbers here are its numbers, and `bindings/run.sh`
 //! holds them to the library's sources.
 //!

@@ -68,9 +68,9 @@ class Deriver:
         self.carried = {grammar.numbers['kind.' + kind]: (grammar.numbers['node.' + node], flags) for kind, (node, flags) in LITERALS.items()}
         # what the premises compute with
         self.functions = {
-            'suc': lambda number: number + 1, '+': operator.add, 'memberOf': grammar.members.get,
-            'levelOf': lambda kind: grammar.levels.get(kind, 0), 'kindOf': sheet.kind, 'spanOf': sheet.span, 'after': sheet.after,
-            'literal': self.literal, 'checkedType': self.checked_type}
+            'suc': lambda number: number + 1, '+': operator.add, 'member_of': grammar.members.get,
+            'level_of': lambda kind: grammar.levels.get(kind, 0), 'kind_of': sheet.kind, 'span_of': sheet.span, 'after': sheet.after,
+            'literal': self.literal, 'checked_type': self.checked_type}
         # the premises that hold or don't, and settle nothing
         self.conditions = {
             'Here': lambda kind, place: sheet.kind(place) == kind, 'Not': lambda kind, place: sheet.kind(place) != kind,

@@ -8,6 +8,7 @@ import os
 import re
 
 SIGNS = ('=', ':', '→', '≡', '≤', '<', '+', '*', '^')        # the weakest first
+MODULES = ('kind', 'node', 'by', 'ranged', 'literals', 'checked', 'trees')                   # what stands before a dot and is no record
 RELATIONS = {'Assignable': 'Symbols.antt', 'Compound': 'Derives.antt', 'NoLambda': 'Derives.antt'}       # small ones that productions ask for
 
 # premises: pairs of a premise and its place in the text, in an order in which they can be tried
@@ -37,6 +38,12 @@ def row(words, at):
             item, at = braces(words, at + 1)
         else:
             item = words[at]
+        # a field stands right behind its record, a name or a closing bracket
+        if isinstance(item, str) and '.' in item and item.split('.')[0] not in MODULES:
+            name, *fields = item.split('.')
+            item = name or items.pop()
+            for field in fields:
+                item = ('.' + field, item)
         items.append(item)
         at += 1
     return joined(items), at
@@ -54,22 +61,11 @@ def braces(words, at):
 
 
 def joined(items):
-    """Signs part what stands beside them; between signs an application is made of what stands side by side, a field of all before it."""
+    """Signs part what stands beside them; between signs an application is made of what stands side by side."""
     for sign in SIGNS:
         if sign in items:
             at = items.index(sign)
             return sign, joined(items[:at]), joined(items[at + 1:])
-    done = []
-    for item in items:
-        if isinstance(item, str) and item.startswith('.'):
-            done = [(item, applied(done))]
-        else:
-            done.append(item)
-    return applied(done)
-
-
-def applied(items):
-    """One thing alone is no application."""
     return items[0] if len(items) == 1 else tuple(items)
 
 
@@ -177,7 +173,7 @@ def numbers(folder, file):
 
 
 def pairs(folder, file, name):
-    """A table that is written as a function, such as `precedenceOf Add = 4`."""
+    """A table that is written as a function, such as `precedence_of Add = 4`."""
     return dict(line.split()[1::2] for line in lines(folder, file) if re.fullmatch(name + r' \w+ = \w+', line))
 
 
@@ -210,16 +206,16 @@ def read(folder, crates):
     for production in productions(folder, 'Derives.antt', 'Derives', constants):
         by_symbol.setdefault(production.conclusion[1][0], []).append(production)
     beside = r'\("(\w+)", (\w+)\)'
-    operators, level = listed(kind_specs, 'Operators.antt', 'binary', beside), pairs(kind_specs, 'Operators.antt', 'precedenceOf')
-    types, number = listed(kind_specs, 'TypeWords.antt', 'words', beside), pairs(kind_specs, 'TypeWords.antt', 'typeNumber')
+    operators, level = listed(kind_specs, 'Operators.antt', 'binary', beside), pairs(kind_specs, 'Operators.antt', 'precedence_of')
+    types, number = listed(kind_specs, 'TypeWords.antt', 'words', beside), pairs(kind_specs, 'TypeWords.antt', 'type_number')
     return Grammar(
         productions=by_symbol,
         relations={name: productions(folder, file, name, constants) for name, file in RELATIONS.items()},
         shapes=shapes(folder, constants),
-        builders={**defined(folder, 'Builders.antt', constants), 'programOver': defined(folder, 'Follows.antt', constants)['programOver']},
+        builders={**defined(folder, 'Builders.antt', constants), 'program_over': defined(folder, 'Follows.antt', constants)['program_over']},
         numbers={name: constants[name] for name in constants if name.startswith(('kind.', 'node.'))},
         levels={kinds[name]: int(level[operator]) for name, operator in operators},
-        members={(form,): (member,) for form, member in pairs(folder, 'Symbols.antt', 'memberOf').items()},
+        members={(form,): (member,) for form, member in pairs(folder, 'Symbols.antt', 'member_of').items()},
         types={word.encode(): int(number[name]) for word, name in types},
-        word_kinds={kinds[name] for name in listed(folder, 'Words.antt', 'wordKinds', r'kind\.(\w+)')},
-        word_records={nodes[name] for name in listed(folder, 'Words.antt', 'wordRecords', r'record-of\.(\w+)')})
+        word_kinds={kinds[name] for name in listed(folder, 'Words.antt', 'word_kinds', r'kind\.(\w+)')},
+        word_records={nodes[name] for name in listed(folder, 'Words.antt', 'word_records', r'record_of\.(\w+)')})

@@ -24,9 +24,9 @@ class Shaper:
             '+': operator.add, '*': operator.mul, '^': operator.pow, 'max': max, 'flagged': flagged, 'word32': lambda number: number % 2 ** 32,
             'none': list, 'join': operator.add, 'tree': lambda label, under: [(label, under)],
             'ranged.Nowhere': lambda: None, 'ranged.At': lambda span: span,
-            'isEnded': lambda span: span is not None, 'rangeOf': lambda span: span or NO_SPAN,
-            'spanOf': sheet.span, 'startOf': lambda place: sheet.span(place)['start'],
-            'functionKind': lambda closure: grammar.numbers['node.Closure' if closure else 'node.Function']}
+            'is_ended': lambda span: span is not None, 'range_of': lambda span: span or NO_SPAN,
+            'span_of': sheet.span, 'start_of': lambda place: sheet.span(place)['start'],
+            'function_kind': lambda closure: grammar.numbers['node.Closure' if closure else 'node.Function']}
 
     def shape(self, derivation, at, before):
         """What a part becomes, by the clause of its production."""
@@ -64,7 +64,7 @@ class Shaper:
     def program(self, found):
         """The tree of a sheet (specs/Follows.antt): it starts at the first token, trivia too."""
         start = self.sheet.tokens[0][1] if self.sheet.tokens else 0
-        return self.call('programOver', start, found.end, self.shape(found.derivation, 0, self.call('blank')))
+        return self.call('program_over', start, found.end, self.shape(found.derivation, 0, self.call('blank')))
 
 
 def fitted(patterns, values):

@@ -1,6 +1,6 @@
 #!/bin/sh
 # build.sh NAME [--standin]: compiles linked/NAME.rs with the oracle and the library into target/bin/NAME; with --standin with the stand-in
-# for the library, into target/bin/NAME-standin. PARSER_LIB names the archive, otherwise it is the one that `rt staticlib parser` writes.
+# for the library, into target/bin/NAME-standin. PARSER_LIB names the archive, otherwise it is the one that tools/library makes.
 set -eu
 cd "$(dirname "$0")/.."
 [ -f target/crates/liblucia.rlib ] || ./build.sh
@@ -10,7 +10,7 @@ if [ "${2:-}" = --standin ]; then
     compile --cfg standin --extern standin=target/crates/libstandin.rlib --crate-name "$1" "linked/$1.rs" -o "target/bin/$1-standin"
 else
     library=${PARSER_LIB:-../target/staticlib/libparser.a}
-    [ -f "$library" ] || { echo "no $library: rt staticlib parser writes it" >&2; exit 1; }
+    [ -f "$library" ] || { echo "no $library: tools/library makes it" >&2; exit 1; }
     [ "$(uname -m)" = x86_64 ] || [ -n "${PARSER_LIB:-}" ] || { echo "the archive links into x86-64 programs only; oracle/stream.sh compares on other machines" >&2; exit 1; }
     compile -C "link-arg=$library" --crate-name "$1" "linked/$1.rs" -o "target/bin/$1"
 fi

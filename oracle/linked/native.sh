@@ -1,8 +1,11 @@
 #!/bin/sh
+# THIS SERVED THE OLDER KIT (rattle-kit-5), WHICH RAN ON ARM TOO; today's runs on x86-64 alone, has no `rt staticlib` and other folders, so that this script does not
+# run with it. It is kept to show how the times on Arm in docs/ORACLE.md were taken.
 # native.sh OUT: the library's archive for the machine that this runs on, to measure time where the kit makes no native code. `rt staticlib parser` runs under a copy of
 # the kit made of links, whose compiler also keeps the module that it is handed; that module is compiled once more, for this machine. Nothing is
 # proved of the outcome, and it is for bench.sh alone.
 set -eu
+[ "$(uname -m)" != x86_64 ] || { echo "native.sh served the older kit on Arm; on x86-64 tools/library makes the archive" >&2; exit 1; }
 out=$1
 cd "$(dirname "$0")/.."
 kit=$(dirname "$(dirname "$(rt doc)")")

@@ -1,4 +1,4 @@
-//! The library's one function, as a C or Rust program sees it (`rt staticlib parser`). It is declared here and not taken from bindings/rust: the
+//! The library's one function, as a C or Rust program sees it (`tools/library` makes it). It is declared here and not taken from bindings/rust: the
 //! counts after a refusal and a number that no table has are to be seen, and the wrapper lets neither through.
 
 #[cfg(standin)]

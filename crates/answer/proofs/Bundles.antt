@@ -1,13 +1,13 @@
 -- What the rule says of bundles: that of a sheet within the lister's limits is answered as the sheet is, and whatever is no such bundle is
 -- refused with 12.
 -- Assumes nothing.
-use mathlib.Core.Path.{◌≡◌, refl, sym, ap, ◌∙◌}
-use mathlib.Core.List.{List, [], ◌∷◌, ◌++◌}
+use mathlib.Core.Path.{◌≡◌, refl, sym, ◌∙◌}
+use mathlib.Core.List.{List, [], ◌∷◌}
 use Prim.Native.Nat.{ℕ, ◌*◌, ◌/◌, ◌≤◌}
 use native.Mathlib.Omega.{arith}
-use lib.ListN.{length, take, drop, replicate, length-replicate}
+use lib.ListN.{length, drop, replicate, length-replicate}
 use lib.Seq.{take-append_seam}
-use Rattle.listing.specs.Bundle.{Bytes, Tokens, Bundled, bundle_of, decoded_into}
+use Rattle.listing.specs.Bundle.{Bytes, Tokens, Bundled, bundle_of}
 use Rattle.listing.specs.Listing.{refusal_of}
 use Rattle.listing.proofs.Accepted.{refused-exactly}
 use Rattle.listing.proofs.Bundles.{lister-bundle}

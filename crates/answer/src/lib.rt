@@ -1,4 +1,6 @@
 // A bundle's answer: what the lister prints for it. The buffers that a sheet is read into are this crate's own.
+#![tactic(auto)]
+
 ghost use Rattle.std.specs.Prelude.{◌≡◌};
 ghost use Rattle.listing.specs.Answers.{wrote, written};
 ghost use Rattle.listing.specs.Listing.{refusal_of};

@@ -52,7 +52,7 @@ copy-same {n} i zero h g p = let e : n + 0 ≡ n = omega arith in rw e h
 copy-same {n} {k} {xs} {ys} {us} {vs} i (suc c) h g p =
     let e : n + suc c ≡ n + 1 + c = omega arith in
     let d : get_or vs i 0 ≡ get_or us i 0 = g.below i (omega arith) in
-    rw e (rw d (copy-same (i + 1) c (same_more (get_or us i 0) h) g (omega arith)))
+    rw e (rw d (copy-same {n = n + 1} {k = k} {xs = put xs n (get_or us i 0)} {ys = put ys n (get_or us i 0)} {us = us} {vs = vs} (i + 1) c (same_more (get_or us i 0) h) g (omega arith)))
 
 error-same : {xs ys : List ℕ} (i : ℕ) (f : Fault) (from c : ℕ) → Same (error_words * i) xs ys → Same (error_words * (i + 1)) (write_error xs i f from c) (write_error ys i f from c)
 unfolding write_error

@@ -22,7 +22,7 @@ use Rattle.rules.specs.Levels.{levels}
 use Rattle.rules.proofs.Takes.{until-turn-takes}
 use Rattle.grammar.specs.Places.{Place, kind_of, Tok, Not}
 use Rattle.grammar.specs.Symbols.{Eols, Until, NoLast, Exprs, Expr, Key, Property}
-use Rattle.grammar.specs.Derives.{Derives, until-of, items-end, items-final, items-comma, table, block-expr, property, paren-key, literal-key}
+use Rattle.grammar.specs.Derives.{Derives, until-of, items-end, items-last, items-final, items-comma, table, block-expr, property, paren-key, literal-key}
 use Rattle.grammar.specs.Words.{among}
 use Rattle.grammar.proofs.Tests.{at-token, elsewhere}
 use Rattle.sound.proofs.Links.{place_at, Settled, kind-place}
@@ -114,6 +114,7 @@ module _ {e : Sheet} {d : ℕ} (h : Handed e d) where
   tables-meet : {p q r : Place} (a : Tok kind.OpenBrace p q) (D : Derives e.text (Until Property NoLast kind.CloseBrace) q r) (from : ℕ) → Meets e d p r (cost_of (table a D)) Any (brace (levels e d) from)
   unfolding brace table_or_block costs records need among
   tables-meet a (until-of E (items-end t)) from = fits (omega arith) (omega arith) (omega arith) (bumps a.next (lines E (eats _ t (close-meets _ _ _ _ _ _))))
+  tables-meet a (until-of E (items-last x _ _)) from = elim x [ ]
   tables-meet a (until-of E (items-final (property D F) G t)) from = fits (omega arith) (omega arith) (omega arith)
       (bumps a.next (lines E (eats-not _ (apart kind.CloseBrace (starts D) refl) (begins (λ inside_of. kept-attempt (keys-meet D) (λ first _. table-stops from inside_of first F G t) (brace_block (levels e d) from inside_of))))))
   tables-meet a (until-of E (items-comma (property D F) G t I K)) from = fits (omega arith) (omega arith) (omega arith)

@@ -1,7 +1,7 @@
--- What a reader owns, and what its slice and its place own, for the proofs of the functions over it: all at one lifetime, κ. A `&[u32]` and a reader
--- are Copy: what they own is had twice, and one copy is kept for the exit.
+-- What a reader owns, and what its slice and its place own, for proofs by hand of functions over it, which Rattle makes by itself today: all at one
+-- lifetime, κ. A `&[u32]` and a reader are Copy: what they own is had twice, and one copy is kept for the exit.
 -- Assumes nothing.
-use Rattle.std.proofs.Common.{◌≡◌, ℕ, ◌^◌, ◌<◌, List, [], ◌∷◌, length, refl, w64, Bor}
+use Rattle.std.proofs.Common.{◌≡◌, ℕ, ◌^◌, ◌<◌, List, [], ◌∷◌, length, refl, w32, w64, Bor}
 use seplogic.Ra.Ura.{Ura}
 use mir.Syntax.{named, erased}
 use mir.Val.{Val, vint}
@@ -11,7 +11,7 @@ use types.Logic.{Logic, sem}
 use types.Kit.{‵, ◌⊛◌, given, ⋆, ◌$◌, ◌∵◌, !, qed, by, move, drop, use1, split, join, learn, fsplit, fjoin, frame, done}
 use denote.RattleType.{RattleType, owns}
 use denote.Laws.{Is}
-use denote.Plain.{uint_Makes}
+use denote.Plain.{uint_Makes, uint_row_laws}
 use denote.Builtin.{u32, usize}
 use denote.Ref.{NamedLft}
 use denote.Slice.{slice_val, ShrSlice, shr_slice_copy}
@@ -43,7 +43,7 @@ lent t = slice_val t.ref_ptr (length t.now)
 
 -- what a slice owns, a slice and a place, and a reader
 abbrev pub Slice : Lft → Bor (List ℕ) → Fml
-Slice κ t = (slice κ).own t (lent t ∷ [])
+Slice κ t = (slice κ).own_val t (lent t ∷ [])
 
 abbrev pub Parts : Lft → Bor (List ℕ) → ℕ → Fml
 Parts κ t n = owns (slice κ ∷ usize ∷ []) (t, (n, tt)) (lent t ∷ [], (vint w64 n ∷ [], tt))
@@ -57,15 +57,15 @@ module _ {M : Type 1} {𝓤 : Ura M} (𝓛 : Logic 𝓤) (κ : Lft) where
   asks q P = qed 𝓛 ((‵ (flft κ q) ⊛ ‵ ftrue) ∷ ‵ P ∷ []) ∵ join ! $ frame ! $ done !
 
   -- a reader at the machine value u, as a function's only parameter
-  pub hands : (q : Share) (d : Reader) (u : Val) → ent 𝓤 (⋆ 𝓛 (‵ ((reader κ).own d (u ∷ [])) ∷ (‵ (flft κ q) ⊛ ‵ ftrue) ∷ []))
+  pub hands : (q : Share) (d : Reader) (u : Val) → ent 𝓤 (⋆ 𝓛 (‵ ((reader κ).own_val d (u ∷ [])) ∷ (‵ (flft κ q) ⊛ ‵ ftrue) ∷ []))
       (sep 𝓤 (⋆ 𝓛 ((‵ (flft κ q) ⊛ ‵ ftrue) ∷ ‵ (owns (reader κ ∷ []) (d, tt) (u ∷ [], tt)) ∷ [])) (emp 𝓤))
-  hands q d u = qed 𝓛 (‵ ((reader κ).own d (u ∷ [])) ∷ (‵ (flft κ q) ⊛ ‵ ftrue) ∷ []) ∵ nothing ! $ move ! (1 ∷ 0 ∷ []) $ fjoin ! $ move ! (1 ∷ 0 ∷ []) $ join ! $ frame ! $ done !
+  hands q d u = qed 𝓛 (‵ ((reader κ).own_val d (u ∷ [])) ∷ (‵ (flft κ q) ⊛ ‵ ftrue) ∷ []) ∵ nothing ! $ move ! (1 ∷ 0 ∷ []) $ fjoin ! $ move ! (1 ∷ 0 ∷ []) $ join ! $ frame ! $ done !
 
   module _ (t : Bor (List ℕ)) where
     -- of a function's parameters, the first of which is a slice: a slice and a place, and the parameters kept
     pub lends : (P : Fml) (n : ℕ) → n < 2 ^ 64 → ent 𝓤 (sem 𝓛 (fsep (Slice κ t) P)) (sep 𝓤 (sem 𝓛 (Parts κ t n)) (sem 𝓛 (fsep (Slice κ t) P)))
     lends P n fits =
-        qed 𝓛 (‵ (fsep (Slice κ t) P) ∷ []) ∵ fsplit ! $ use1 𝓛 (‵ (Slice κ t) ⊛ ‵ (Slice κ t)) ((shr_slice_copy 𝓛 (named 0) κ u32).twice t (lent t ∷ [])) $ split ! $
+        qed 𝓛 (‵ (fsep (Slice κ t) P) ∷ []) ∵ fsplit ! $ use1 𝓛 (‵ (Slice κ t) ⊛ ‵ (Slice κ t)) ((shr_slice_copy 𝓛 (named 0) κ u32 (uint_row_laws w32)).twice t (lent t ∷ [])) $ split ! $
         nothing ! $ owned ! usize (Is usize) (uint_Makes 𝓛 w64) n _ (refl, fits) $ fjoin ! $ move ! (1 ∷ 0 ∷ []) $ fjoin ! $ frame ! $ fjoin ! $ done !
 
   module _ (d : Reader) where
@@ -79,7 +79,7 @@ module _ {M : Type 1} {𝓤 : Ura M} (𝓛 : Logic 𝓤) (κ : Lft) where
     vd = (d.tokens, (d.at, tt))
 
     abbrev Own : Fml
-    Own = (reader κ).own d (T'.lowered d ∷ [])
+    Own = (reader κ).own_val d (T'.lowered d ∷ [])
 
     -- of a slice and a place a reader
     pub shut : ent 𝓤 (sem 𝓛 (Parts κ d.tokens d.at)) (sem 𝓛 Own)

@@ -1,5 +1,5 @@
 -- What each rule of this crate keeps (Keeps). Each is stated for any mark; a rule on records says which links it may be handed.
-use Rattle.std.proofs.Common.{◌≡◌, ℕ, zero, suc, ◌+◌, ◌*◌, ◌/◌, ◌<◌, ◌≤◌, min, eqb, ltb, leb, List, [], ◌∷◌, length, refl, ◌∙◌, le_trans, le_refl, arith, get_or-set_other}
+use Rattle.std.proofs.Common.{◌≡◌, ℕ, zero, suc, ◌+◌, ◌*◌, ◌/◌, ◌<◌, ◌≤◌, min, eqb, ltb, leb, List, [], ◌∷◌, length, get_or, refl, ◌∙◌, le_trans, le_refl, arith, get_or-set_other}
 use Rattle.cursor.specs.declared.State.{State}
 use Rattle.cursor.specs.declared.Fault.{Fault}
 use Rattle.cursor.specs.declared.Kids.{Kids}
@@ -83,7 +83,7 @@ put-same-below n xs i a h = record { long = put-length xs i a; below = λ j p. g
 copy-same : (n : ℕ) (ys : List ℕ) (i : ℕ) (xs : List ℕ) (k c : ℕ) → n ≤ i → Same n ys (copy ys i xs k c)
 unfolding copy
 copy-same n ys i xs k zero h = same_refl n ys
-copy-same n ys i xs k (suc c) h = same-trans (put-same-below n ys i _ h) (copy-same n _ (i + 1) xs (k + 1) c (omega arith))
+copy-same n ys i xs k (suc c) h = same-trans (put-same-below n ys i _ h) (copy-same n (put ys i (get_or xs k 0)) (i + 1) xs (k + 1) c (omega arith))
 
 error-same : (n : ℕ) (xs : List ℕ) (i : ℕ) (f : Fault) (from c : ℕ) → n ≤ i → Same (error_words * n) xs (write_error xs i f from c)
 unfolding write_error

@@ -1,8 +1,8 @@
 -- Wrong answers that the contracts rule out, two to each public function, each at one small sheet: the answer that a slip in the code would give
--- does not meet the contract. `Post` is the contract as the check reads it from the source; of a function over a reader, which has none, it is the `ensures`
+-- does not meet the contract. `Post` is the contract as the check reads it from the source; of a function over a reader, where the older Rattle made none, it is the `ensures`
 -- clause that cannot hold. Some of the slips are must-fail edits besides.
 -- Assumes nothing.
-use Rattle.std.proofs.Common.{◌≡◌, ℕ, ◌+◌, ◌*◌, ◌^◌, Bool, true, false, eqb, List, [], ◌∷◌, get_or, refl, ap, ◌∙◌, arith, Bor}
+use Rattle.std.proofs.Common.{◌≡◌, ℕ, ◌+◌, ◌*◌, ◌^◌, Bool, true, false, eqb, List, [], ◌∷◌, get_or, refl, ap, ◌∙◌, arith, Bor, MutBor}
 use borrow.Author.Tests.{eqb-false}
 use seplogic.Ra.Ura.{Ura}
 use base.Logic.{SProp, ent}
@@ -61,9 +61,12 @@ use Rattle.cursor.proofs.records.reflag.Reads as reflag
 use Rattle.cursor.proofs.records.flagged.Reads as flagged
 use Rattle.cursor.proofs.records.log_error.Reads as log-error
 
--- a slice or an array that is lent, by what it holds
+-- a slice or an array that is lent, by what it holds, and one that is lent to be written
 abbrev lent : List ℕ → Bor (List ℕ)
 lent xs = record { ref_ptr = (0, 0); now = xs }
+
+abbrev lent_mut : List ℕ → MutBor (List ℕ)
+lent_mut xs = record { ref_ptr = (0, 0); ghost_name = 0; now = xs }
 
 -- `a ,`: a name, a blank, a comma; and an end of line before a comma
 abbrev tokens : List ℕ
@@ -211,19 +214,19 @@ rewind-keeps-the-old-length κs x p = apart (λ s. s.live) p refl
 
 -- checks
 
-pub check-refused-10 : (κs : _) (x : _) → check.Post κs (lent tokens, (lent [], (state 0 0 0 1024, (kind.Comma, tt)))) (tests.Failed (refusal 10)) x → ⊥
+pub check-refused-10 : (κs : _) (x : _) → check.Post κs (lent tokens, (lent_mut [], (state 0 0 0 1024, (kind.Comma, tt)))) (tests.Failed (refusal 10)) x → ⊥
 unfolding check want kind_at count
 check-refused-10 κs x p = apart ended (p [] limits [] [] []) refl
 
-pub check-repeat-left-out : (κs : _) (x : _) → check.Post κs (lent tokens, (lent (kind.Comma ∷ 0 ∷ []), (state 0 0 0 1, (kind.Comma, tt)))) (tests.No (state 0 0 0 1)) x → ⊥
+pub check-repeat-left-out : (κs : _) (x : _) → check.Post κs (lent tokens, (lent_mut (kind.Comma ∷ 0 ∷ []), (state 0 0 0 1, (kind.Comma, tt)))) (tests.No (state 0 0 0 1)) x → ⊥
 unfolding check want kind_at count
 check-repeat-left-out κs x p = apart (λ o. (left o).live) (p [] limits [] [] []) refl
 
-pub eat-no-is-yes : (κs : _) (x : _) → eat.Post κs (lent tokens, (lent (0 ∷ []), (limits, (state 0 0 0 0, (kind.Comma, tt))))) (tests.Yes (state 0 0 0 1)) x → ⊥
+pub eat-no-is-yes : (κs : _) (x : _) → eat.Post κs (lent tokens, (lent_mut (0 ∷ []), (limits, (state 0 0 0 0, (kind.Comma, tt))))) (tests.Yes (state 0 0 0 1)) x → ⊥
 unfolding eat check want kind_at count
 eat-no-is-yes κs x p = apart says (p [] [] [] []) refl
 
-pub eat-taken-is-no : (κs : _) (x : _) → eat.Post κs (lent tokens, (lent (0 ∷ []), (limits, (state 0 0 0 0, (kind.Ident, tt))))) (tests.No (state 2 1 1 0)) x → ⊥
+pub eat-taken-is-no : (κs : _) (x : _) → eat.Post κs (lent tokens, (lent_mut (0 ∷ []), (limits, (state 0 0 0 0, (kind.Ident, tt))))) (tests.No (state 2 1 1 0)) x → ⊥
 unfolding eat check bump past_trivia past_from kind_at range_at count is_trivia
 eat-taken-is-no κs x p = apart says (p [] [] [] []) refl
 
@@ -252,21 +255,21 @@ pub unexpected-of-another-token : (κs : _) (x : _) → unexpected.Post κs (len
 unfolding unexpected_at kind_at range_at count
 unexpected-of-another-token κs x p = apart (λ f. f.fault.found) (p [] limits) refl
 
-pub expect-not-moved : (κs : _) (x : _) → expect.Post κs (lent tokens, (lent (0 ∷ []), (limits, (state 0 0 0 0, (kind.Ident, tt))))) (moves.On (state 0 0 0 0)) x → ⊥
+pub expect-not-moved : (κs : _) (x : _) → expect.Post κs (lent tokens, (lent_mut (0 ∷ []), (limits, (state 0 0 0 0, (kind.Ident, tt))))) (moves.On (state 0 0 0 0)) x → ⊥
 unfolding expect eat check bump past_trivia past_from kind_at range_at count is_trivia
 expect-not-moved κs x p = apart (λ o. (left o).at) (p [] [] [] []) refl
 
 pub expect-fault-before-the-test :
     (κs : _) (x : _) →
-    expect.Post κs (lent tokens, (lent (0 ∷ []), (limits, (state 0 0 0 0, (kind.Comma, tt))))) (moves.Failed (erred (state 0 0 0 0) (record { class = 0; found = kind.Ident; span = span 0 1; listed = 1 }))) x → ⊥
+    expect.Post κs (lent tokens, (lent_mut (0 ∷ []), (limits, (state 0 0 0 0, (kind.Comma, tt))))) (moves.Failed (erred (state 0 0 0 0) (record { class = 0; found = kind.Ident; span = span 0 1; listed = 1 }))) x → ⊥
 unfolding expect unexpected eat check want kind_at count
 expect-fault-before-the-test κs x p = apart (λ o. (left o).live) (p [] [] [] []) refl
 
-pub eat-range-not-moved : (κs : _) (x : _) → eat-range.Post κs (lent tokens, (lent (0 ∷ []), (limits, (state 0 0 0 0, (kind.Ident, tt))))) (eatens.At (state 0 0 0 0) (span 0 1)) x → ⊥
+pub eat-range-not-moved : (κs : _) (x : _) → eat-range.Post κs (lent tokens, (lent_mut (0 ∷ []), (limits, (state 0 0 0 0, (kind.Ident, tt))))) (eatens.At (state 0 0 0 0) (span 0 1)) x → ⊥
 unfolding eat_range check bump past_trivia past_from kind_at range_at count is_trivia
 eat-range-not-moved κs x p = apart (λ o. (left o).at) (p [] [] [] []) refl
 
-pub eat-range-no-kind-told : (κs : _) (x : _) → eat-range.Post κs (lent tokens, (lent (0 ∷ []), (limits, (state 0 0 0 0, (kind.Comma, tt))))) (eatens.No (state 0 0 0 0)) x → ⊥
+pub eat-range-no-kind-told : (κs : _) (x : _) → eat-range.Post κs (lent tokens, (lent_mut (0 ∷ []), (limits, (state 0 0 0 0, (kind.Comma, tt))))) (eatens.No (state 0 0 0 0)) x → ⊥
 unfolding eat_range check want kind_at count
 eat-range-no-kind-told κs x p = apart (λ o. (left o).live) (p [] [] [] []) refl
 
@@ -279,13 +282,13 @@ is-in-the-last-left-out κs x p = apart bit p refl
 pub is-in-whatever-it-is : (κs : _) (x : _) → is-in.Post κs (kind.Ident, (lent chain, tt)) true x → ⊥
 is-in-whatever-it-is κs x p = apart bit p refl
 
-pub pick-counts-no-kind : (κs : _) (x : _) → pick.Post κs (lent tokens, (lent (0 ∷ 0 ∷ []), (state 0 0 0 0, (lent chain, tt)))) (picks.Case (state 0 0 0 0) 2) x → ⊥
+pub pick-counts-no-kind : (κs : _) (x : _) → pick.Post κs (lent tokens, (lent_mut (0 ∷ 0 ∷ []), (state 0 0 0 0, (lent chain, tt)))) (picks.Case (state 0 0 0 0) 2) x → ⊥
 unfolding pick_from check want kind_at count
 pick-counts-no-kind κs x p = apart (λ o. (left o).live) (p [] limits [] [] []) refl
 
 pub pick-writes-another-kind :
     (κs : _) →
-    pick.Post κs (lent tokens, (lent (0 ∷ 0 ∷ []), (state 0 0 0 0, (lent chain, tt)))) (picks.Case (state 0 0 0 2) 2) (lent tokens, (lent (0 ∷ 0 ∷ []), (state 0 0 0 0, (lent chain, tt)))) → ⊥
+    pick.Post κs (lent tokens, (lent_mut (0 ∷ 0 ∷ []), (state 0 0 0 0, (lent chain, tt)))) (picks.Case (state 0 0 0 2) 2) (lent tokens, (lent_mut (0 ∷ 0 ∷ []), (state 0 0 0 0, (lent chain, tt)))) → ⊥
 unfolding pick_from check want put kind_at count
 pick-writes-another-kind κs p = apart (λ o. get_or (held_by none o).live 0 0) (p [] limits [] [] []) refl
 
@@ -302,18 +305,18 @@ grown n = record { at = 0; prev = 0; reads = 0; nodes = n; errors = 0; wanted = 
 abbrev zeros : List ℕ
 zeros = 0 ∷ 0 ∷ 0 ∷ 0 ∷ 0 ∷ 0 ∷ 0 ∷ 0 ∷ []
 
-pub append-links-on : (κs : _) → append.Post κs (lent zeros, (grown 0, (name, (3, tt)))) (builds.Node (grown 1) 1) (lent (7 ∷ 0 ∷ 1 ∷ 3 ∷ 3 ∷ 0 ∷ 0 ∷ 0 ∷ []), (grown 0, (name, (3, tt)))) → ⊥
+pub append-links-on : (κs : _) → append.Post κs (lent_mut zeros, (grown 0, (name, (3, tt)))) (builds.Node (grown 1) 1) (lent_mut (7 ∷ 0 ∷ 1 ∷ 3 ∷ 3 ∷ 0 ∷ 0 ∷ 0 ∷ []), (grown 0, (name, (3, tt)))) → ⊥
 unfolding append write put
 append-links-on κs p = apart (λ o. get_or (held_by none o).nodes NEXT 0) (p [] [] []) refl
 
 -- whatever buffer is lent
-pub append-one-record-more : (κs : _) (x : _) (xs : List ℕ) → append.Post κs (lent xs, (grown 8192, (name, (0, tt)))) (builds.Node (grown 8193) 8193) x → ⊥
+pub append-one-record-more : (κs : _) (x : _) (xs : List ℕ) → append.Post κs (lent_mut xs, (grown 8192, (name, (0, tt)))) (builds.Node (grown 8193) 8193) x → ⊥
 append-one-record-more κs x xs p = apart ended (p [] [] [] ∙ append-full name 0 (grown 8192) (world xs [] [] []) refl (omega arith)) refl
 
 abbrev row : ℕ → ℕ → Kids
 row last count = record { first = 1; last = last; count = count }
 
-pub add-counts-two : (κs : _) (x : _) → add.Post κs (lent zeros, (row 1 1, (2, tt))) (row 2 3) x → ⊥
+pub add-counts-two : (κs : _) (x : _) → add.Post κs (lent_mut zeros, (row 1 1, (2, tt))) (row 2 3) x → ⊥
 unfolding add put
 add-counts-two κs x p = apart answered (p (grown 2) [] [] []) refl
   where
@@ -321,15 +324,15 @@ add-counts-two κs x p = apart answered (p (grown 2) [] [] []) refl
     answered (done s w k) = k.count
     answered (failed f) = 0
 
-pub add-links-the-first-word : (κs : _) → add.Post κs (lent zeros, (row 1 1, (2, tt))) (row 2 2) (lent (0 ∷ 0 ∷ 0 ∷ 2 ∷ 0 ∷ 0 ∷ 0 ∷ 0 ∷ []), (row 1 1, (2, tt))) → ⊥
+pub add-links-the-first-word : (κs : _) → add.Post κs (lent_mut zeros, (row 1 1, (2, tt))) (row 2 2) (lent_mut (0 ∷ 0 ∷ 0 ∷ 2 ∷ 0 ∷ 0 ∷ 0 ∷ 0 ∷ []), (row 1 1, (2, tt))) → ⊥
 unfolding add put
 add-links-the-first-word κs p = apart (λ o. get_or (held_by none o).nodes NEXT 0) (p (grown 2) [] [] []) refl
 
-pub reflag-another-word : (κs : _) → reflag.Post κs (lent zeros, (1, (9, tt))) tt (lent (0 ∷ 0 ∷ 0 ∷ 0 ∷ 0 ∷ 0 ∷ 9 ∷ 0 ∷ []), (1, (9, tt))) → ⊥
+pub reflag-another-word : (κs : _) → reflag.Post κs (lent_mut zeros, (1, (9, tt))) tt (lent_mut (0 ∷ 0 ∷ 0 ∷ 0 ∷ 0 ∷ 0 ∷ 9 ∷ 0 ∷ []), (1, (9, tt))) → ⊥
 unfolding reflag put
 reflag-another-word κs p = apart (λ o. get_or (held_by none o).nodes FLAGS 0) (p (grown 1) [] [] []) refl
 
-pub reflag-writes-the-link : (κs : _) → reflag.Post κs (lent zeros, (1, (9, tt))) tt (lent (0 ∷ 0 ∷ 0 ∷ 0 ∷ 0 ∷ 0 ∷ 0 ∷ 1 ∷ []), (1, (9, tt))) → ⊥
+pub reflag-writes-the-link : (κs : _) → reflag.Post κs (lent_mut zeros, (1, (9, tt))) tt (lent_mut (0 ∷ 0 ∷ 0 ∷ 0 ∷ 0 ∷ 0 ∷ 0 ∷ 1 ∷ []), (1, (9, tt))) → ⊥
 unfolding reflag put
 reflag-writes-the-link κs p = apart (λ o. get_or (held_by none o).nodes FLAGS 0) (p (grown 1) [] [] []) refl
 
@@ -346,10 +349,10 @@ shut = record { class = 0; found = 51; span = span 0 1; listed = 1 }
 abbrev logged : ℕ → ℕ → State
 logged errors wanted = record { at = 0; prev = 0; reads = 0; nodes = 0; errors = errors; wanted = wanted; live = 2 }
 
-pub log-error-kinds-overwritten : (κs : _) (x : _) → log-error.Post κs (lent (0 ∷ 0 ∷ 0 ∷ 0 ∷ 0 ∷ 0 ∷ []), (lent (0 ∷ 0 ∷ []), (lent chain, (logged 0 0, (shut, tt))))) (moves.On (logged 1 0)) x → ⊥
+pub log-error-kinds-overwritten : (κs : _) (x : _) → log-error.Post κs (lent_mut (0 ∷ 0 ∷ 0 ∷ 0 ∷ 0 ∷ 0 ∷ []), (lent_mut (0 ∷ 0 ∷ []), (lent chain, (logged 0 0, (shut, tt))))) (moves.On (logged 1 0)) x → ⊥
 unfolding log write_error copy put
 log-error-kinds-overwritten κs x p = apart (λ o. (left o).wanted) (p []) refl
 
-pub log-error-one-kind-less : (κs : _) (x : _) → log-error.Post κs (lent (0 ∷ 0 ∷ 0 ∷ 0 ∷ 0 ∷ 0 ∷ []), (lent (0 ∷ 0 ∷ []), (lent chain, (logged 0 0, (shut, tt))))) (moves.Failed (refusal 8)) x → ⊥
+pub log-error-one-kind-less : (κs : _) (x : _) → log-error.Post κs (lent_mut (0 ∷ 0 ∷ 0 ∷ 0 ∷ 0 ∷ 0 ∷ []), (lent_mut (0 ∷ 0 ∷ []), (lent chain, (logged 0 0, (shut, tt))))) (moves.Failed (refusal 8)) x → ⊥
 unfolding log write_error copy put
 log-error-one-kind-less κs x p = apart ended (p []) refl

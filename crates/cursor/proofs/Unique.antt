@@ -1,7 +1,7 @@
 -- No second answer satisfies a contract: of each public function, two answers that its `ensures` admits for the same arguments are one, and so
 -- is what they leave in the lent buffers, unless the whole reading was refused (Told). `Post` is the contract as the check reads it from the
--- source; a contract that holds for all contents of the buffers that a function does not see is used at empty ones. Of a function over a reader, which the
--- borrow checker does not cover, there is no `Post`: there the lemma is of the `ensures` clause itself, an assertion.
+-- source; a contract that holds for all contents of the buffers that a function does not see is used at empty ones. Of a function over a reader the
+-- lemma is of the `ensures` clause itself, an assertion: the older Rattle made no `Post` there.
 -- Assumes nothing.
 use Rattle.std.proofs.Common.{◌≡◌, ℕ, List, [], sym, ap, ◌∙◌}
 use seplogic.Ra.Ura.{Ura}

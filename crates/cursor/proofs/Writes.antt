@@ -37,12 +37,12 @@ puts xs n k (v ∷ vs) = puts (put xs (cell n k) v) n (suc k) vs
 pub puts-length : (xs : List ℕ) (n k : ℕ) (vs : List ℕ) → length (puts xs n k vs) ≡ length xs
 unfolding puts
 puts-length xs n k [] = refl
-puts-length xs n k (v ∷ vs) = puts-length _ n (suc k) vs ∙ put-length xs (cell n k) v
+puts-length xs n k (v ∷ vs) = puts-length (put xs (cell n k) v) n (suc k) vs ∙ put-length xs (cell n k) v
 
 pub puts-other : (xs : List ℕ) (n k : ℕ) (vs : List ℕ) (i j : ℕ) → cell i j < cell n k → word (puts xs n k vs) i j ≡ word xs i j
 unfolding puts
 puts-other xs n k [] i j h = refl
-puts-other xs n k (v ∷ vs) i j h = puts-other _ n (suc k) vs i j (omega arith) ∙ put_other xs (cell n k) v i j (omega arith)
+puts-other xs n k (v ∷ vs) i j h = puts-other (put xs (cell n k) v) n (suc k) vs i j (omega arith) ∙ put_other xs (cell n k) v i j (omega arith)
 
 pub puts-same : (xs : List ℕ) (n k : ℕ) (vs : List ℕ) (i : ℕ) → i < length vs → cell n (k + length vs) ≤ length xs → word (puts xs n k vs) n (k + i) ≡ get_or vs i 0
 unfolding puts
@@ -52,7 +52,7 @@ puts-same xs n k (v ∷ vs) zero h r =
     rw e (puts-other _ n (suc k) vs n k (omega arith) ∙ put_same xs v n k (omega arith))
 puts-same xs n k (v ∷ vs) (suc i) h r =
     let e : k + suc i ≡ suc k + i = omega arith in
-    rw e (puts-same _ n (suc k) vs i (omega arith) (rw put-length (omega arith)))
+    rw e (puts-same (put xs (cell n k) v) n (suc k) vs i (omega arith) (rw put-length (omega arith)))
 
 -- a record's words in their order: a label's, and the two links
 abbrev pub words_of : Label → ℕ → List ℕ

@@ -7,7 +7,7 @@ use Rattle.cursor.specs.declared.Span.{Span}
 use Rattle.cursor.specs.declared.Ranged.{Ranged}
 use Rattle.cursor.specs.declared.Ranged.TheVariants as ranged
 use Rattle.cursor.specs.Sheet.{Sheet, count, kind_at, range_at}
-use Rattle.cursor.specs.Rule.{refusal, refused, Out, done, failed, Rule, ◌>>=◌, ◌>>◌, give, Next, more, stop, Turn, iterate}
+use Rattle.cursor.specs.Rule.{refusal, refused, Out, done, failed, Rule, ◌>>◌, give, Next, more, stop, Turn, iterate}
 
 -- the first place from i on whose token is no trivia, among at most so many
 unfoldable pub past_from : List ℕ → ℕ → ℕ → ℕ

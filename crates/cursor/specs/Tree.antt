@@ -1,5 +1,5 @@
 -- The meaning of the node buffer: the tree that its records spell, wherever they lie.
-use Rattle.std.specs.Prelude.{ℕ, zero, suc, ◌+◌, ◌*◌, List, length, slice_index}
+use Rattle.std.specs.Prelude.{ℕ, zero, suc, ◌+◌, List, length, slice_index}
 use Rattle.cursor.specs.declared.Label.{Label}
 use Rattle.cursor.specs.Layout.{KIND, START, END, FIRST, NEXT, ONE, TWO, FLAGS, cell}
 

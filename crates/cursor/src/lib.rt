@@ -1,5 +1,6 @@
 // The parser's state and how its rules end. The buffers that a sheet is read into are the caller's and are lent to each
 // function that needs them, in this order: text, tokens, nodes, errors, expected, live, limits, state, the rest.
+#![tactic(auto)]
 
 pub mod checks;
 pub mod nodes;
@@ -14,14 +15,14 @@ pub const TOKEN_WORDS: usize = 3;
 pub const LIVE_ROOM: usize = 1024;
 
 // What the caller allows.
-#[derive(Drop)]
+#[derive(Clone, Copy)]
 pub struct Limits {
     pub allowance: u32,
 }
 
 // Where the reading stands: the position in the token list, the end of the last token read, the readings, and how much of the node,
 // error and expected buffers and of the live list is in use.
-#[derive(Drop)]
+#[derive(Clone, Copy)]
 pub struct State {
     pub at: usize,
     pub prev: u32,
@@ -32,14 +33,14 @@ pub struct State {
     pub live: u32,
 }
 
-#[derive(Drop)]
+#[derive(Clone, Copy)]
 pub struct Span {
     pub start: u32,
     pub end: u32,
 }
 
 // The range of the current token, if there is one.
-#[derive(Drop)]
+#[derive(Clone, Copy)]
 pub enum Ranged {
     At(Span),
     Nowhere,
@@ -47,7 +48,7 @@ pub enum Ranged {
 
 // Rust's CompilerError, not yet logged: a kind that was found (class 0) or an integer's fault (class 1), and whether the live list is its
 // list of expected kinds, 1 or 0: a word, since behind a bool each copy would have a gap of three bytes to copy too.
-#[derive(Drop)]
+#[derive(Clone, Copy)]
 pub struct Fault {
     pub class: u32,
     pub found: u32,
@@ -57,7 +58,7 @@ pub struct Fault {
 
 // How a rule ends where it does not succeed: Rust's Err, under number 0, or a refusal, which ends the whole reading. It is no enum so that its State lies where
 // that of a success does: with a tag before it each copy of a State would be put together from bytes.
-#[derive(Drop)]
+#[derive(Clone, Copy)]
 pub struct Failure {
     pub state: State,
     pub number: u32,
@@ -114,14 +115,14 @@ const NO_FAULT: Fault = Fault {
 };
 
 // The answer of a rule that only moves.
-#[derive(Drop)]
+#[derive(Clone, Copy)]
 pub enum Moved {
     On(State),
     Failed(Failure),
 }
 
 // The answer of a rule that tests what stands here.
-#[derive(Drop)]
+#[derive(Clone, Copy)]
 pub enum Test {
     Yes(State),
     No(State),
@@ -129,7 +130,7 @@ pub enum Test {
 }
 
 // The answer of `eat_range`.
-#[derive(Drop)]
+#[derive(Clone, Copy)]
 pub enum Eaten {
     At(State, Span),
     No(State),
@@ -137,21 +138,21 @@ pub enum Eaten {
 }
 
 // The answer of a chain of checks: the place of the first that holds.
-#[derive(Drop)]
+#[derive(Clone, Copy)]
 pub enum Picked {
     Case(State, usize),
     Failed(Failure),
 }
 
 // The answer of a rule that builds a record: the link to it.
-#[derive(Drop)]
+#[derive(Clone, Copy)]
 pub enum Built {
     Node(State, u32),
     Failed(Failure),
 }
 
 // A row of children under construction: links to the first and the last (0: none, otherwise the index and 1), and how many there are.
-#[derive(Drop)]
+#[derive(Clone, Copy)]
 pub struct Kids {
     pub first: u32,
     pub last: u32,
@@ -159,7 +160,7 @@ pub struct Kids {
 }
 
 // What a node record says besides its links.
-#[derive(Drop)]
+#[derive(Clone, Copy)]
 pub struct Label {
     pub kind: u32,
     pub start: u32,

@@ -5,7 +5,7 @@ ghost use Rattle.cursor.specs.Tokens.{past_trivia};
 
 use crate::{Ranged, Span, TOKEN_WORDS};
 
-#[derive(Drop)]
+#[derive(Clone, Copy)]
 pub struct Reader<'a> {
     pub tokens: &'a [u32],
     pub at: usize,

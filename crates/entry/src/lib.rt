@@ -1,12 +1,14 @@
 // The entry check: whether a text and its tokens are fit to read, or which of the refusals 1 to 6 is given.
 // Tokens are 32-bit words, three to a token: kind, start, end. Nothing is written.
+#![tactic(auto)]
+
 ghost use Rattle.std.specs.Prelude.{◌≡◌, cond, true, not, ◌||◌, [], ◌∷◌, ◌+◌, ◌≤◌, length, take, drop, replicate, ltb};
 ghost use Rattle.entry.specs.Utf8.{ascii, tail, between, fits, char_length, ascii_run, is_utf8, no_tail};
 ghost use Rattle.entry.specs.Little.{little};
 ghost use Rattle.entry.specs.Check.{refusal_number, bad_kind, bad_range, is_quote, quoted, marked, bad_quotes, token_fault, tokens_fault, entry_of};
 
 // The refusals, in the order of their numbers.
-#[derive(Drop)]
+#[derive(Clone, Copy)]
 pub enum Refusal {
     TextTooLong,
     TooManyTokens,
@@ -16,7 +18,7 @@ pub enum Refusal {
     BadQuotes,
 }
 
-#[derive(Drop)]
+#[derive(Clone, Copy)]
 pub enum Entry {
     Fit,
     Refused(Refusal),

@@ -1,6 +1,8 @@
 // Puts the cases on standard input to the entry check, and counts those that get another answer than they name.
 // A case: the answer (1 byte); a byte and how often it is repeated; a count of bytes and those bytes, which end the text; a kind and
 // how many tokens of it, one byte each from 0 on; a count of words and those words, which end the tokens. Counts and words have 4 bytes, the low byte first.
+#![tactic(auto)]
+
 ghost use Rattle.std.specs.Prelude.{◌≤◌};
 
 const TEXT: usize = 65600;
@@ -8,7 +10,7 @@ const TEXT: usize = 65600;
 const WORDS: usize = 12400;
 
 // A case that was read: where the next one starts, and how much of the buffers it fills.
-#[derive(Drop)]
+#[derive(Clone, Copy)]
 struct Case {
     next: usize,
     size: usize,
@@ -158,7 +160,7 @@ fn missed(text: &[u8], words: &[u32], case: Case, want: u8) -> u64
     }
 }
 
-#[derive(Drop)]
+#[derive(Clone, Copy)]
 struct Tally {
     cases: u64,
     wrong: u64,

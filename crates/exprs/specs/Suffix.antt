@@ -2,7 +2,7 @@
 use Rattle.std.specs.Prelude.{ℕ, List, [], ◌∷◌, Bool, true, false}
 use Rattle.kinds.specs.Number as kind
 use Rattle.cursor.specs.Sheet.{Sheet}
-use Rattle.cursor.specs.Rule.{Rule, ◌>>=◌, ◌>>◌, give}
+use Rattle.cursor.specs.Rule.{Rule, ◌>>◌, give}
 use Rattle.cursor.specs.Checks.{is_in, pick}
 use Rattle.parts.specs.declared.values.Expr.{Expr}
 

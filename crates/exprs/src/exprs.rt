@@ -43,6 +43,7 @@ use types::patterns::span_of;
 use types::types::{returns, ty, typed_ident};
 
 // Rust's parse_exprs: statements up to a kind that ends them. A level is used up on each entry.
+#[cycle(exprs)]
 pub fn exprs(
     text: &[u8],
     tokens: &[u32],
@@ -107,6 +108,7 @@ pub fn exprs(
 }
 
 // Rust's parse_block; with `wrap` another record of that kind and of the same range over it.
+#[cycle(exprs)]
 fn block(
     text: &[u8],
     tokens: &[u32],
@@ -145,6 +147,7 @@ fn block(
 }
 
 // Rust's parse_stmt. A statement at `fn` is attempted as a named function, then read as any other.
+#[cycle(exprs)]
 fn stmt(
     text: &[u8],
     tokens: &[u32],
@@ -187,6 +190,7 @@ fn stmt(
 }
 
 // A statement that is no named function.
+#[cycle(exprs)]
 fn plain(
     text: &[u8],
     tokens: &[u32],
@@ -227,6 +231,7 @@ fn plain(
 }
 
 // Rust's parse_function_stmt, also after `glo`.
+#[cycle(exprs)]
 fn def(
     text: &[u8],
     tokens: &[u32],
@@ -267,6 +272,7 @@ fn def(
 }
 
 // Rust's parse_function, and the same of a closure.
+#[cycle(exprs)]
 fn func(
     text: &[u8],
     tokens: &[u32],
@@ -311,6 +317,7 @@ fn func(
 }
 
 // Rust's parse_expr and parse_expr_with_option: the link alone.
+#[cycle(exprs)]
 fn expr(
     text: &[u8],
     tokens: &[u32],
@@ -334,6 +341,7 @@ fn expr(
 }
 
 // Rust's parse_expr_and_block: both join a row.
+#[cycle(exprs)]
 fn head(
     text: &[u8],
     tokens: &[u32],
@@ -373,6 +381,7 @@ fn head(
 }
 
 // Rust's parse_expr_precedence. A level is used up on each entry.
+#[cycle(exprs)]
 pub fn prec(
     text: &[u8],
     tokens: &[u32],
@@ -429,6 +438,7 @@ pub fn prec(
 }
 
 // One operator with its right operand; `is` with its type word.
+#[cycle(exprs)]
 fn op(
     text: &[u8],
     tokens: &[u32],
@@ -501,6 +511,7 @@ fn op(
 }
 
 // Rust's parse_expr_unary.
+#[cycle(exprs)]
 fn unary(
     text: &[u8],
     tokens: &[u32],
@@ -557,6 +568,7 @@ fn unary(
 }
 
 // `try`: a final Call, and its handlers, which join the Call's record.
+#[cycle(exprs)]
 fn tried(
     text: &[u8],
     tokens: &[u32],
@@ -619,6 +631,7 @@ fn tried(
 }
 
 // A handler of a `try`.
+#[cycle(exprs)]
 fn hand(
     text: &[u8],
     tokens: &[u32],
@@ -672,6 +685,7 @@ fn hand(
 }
 
 // Rust's parse_expr_primary.
+#[cycle(exprs)]
 fn prim(
     text: &[u8],
     tokens: &[u32],
@@ -716,6 +730,7 @@ fn prim(
 }
 
 // One call or member more, where one stands here.
+#[cycle(exprs)]
 fn post(
     text: &[u8],
     tokens: &[u32],
@@ -770,6 +785,7 @@ fn post(
 }
 
 // A call from behind its opening parenthesis on; the macro trailing_lambda is a block with a Closure over it.
+#[cycle(exprs)]
 fn call(
     text: &[u8],
     tokens: &[u32],
@@ -828,6 +844,7 @@ fn call(
 }
 
 // A member, where one stands here; a `?` needs one.
+#[cycle(exprs)]
 fn access(
     text: &[u8],
     tokens: &[u32],
@@ -887,6 +904,7 @@ fn access(
 }
 
 // The property of a member, of the macro member_expr, by the place of its opening token among `[`, `.` and `::`; none where it is a meta member.
+#[cycle(exprs)]
 fn prop(
     text: &[u8],
     tokens: &[u32],
@@ -926,6 +944,7 @@ fn prop(
 }
 
 // Rust's parse_expr_atom.
+#[cycle(exprs)]
 fn atom(
     text: &[u8],
     tokens: &[u32],
@@ -976,6 +995,7 @@ fn atom(
 }
 
 // The forms of an atom, by their place in its chain.
+#[cycle(exprs)]
 fn form(
     text: &[u8],
     tokens: &[u32],
@@ -1038,6 +1058,7 @@ fn form(
 }
 
 // An expression in parentheses, a list, and `return` with its argument.
+#[cycle(exprs)]
 fn group(
     text: &[u8],
     tokens: &[u32],
@@ -1085,6 +1106,7 @@ fn group(
 }
 
 // A function without a name: `fn`, a closure or `do`.
+#[cycle(exprs)]
 fn anon(
     text: &[u8],
     tokens: &[u32],
@@ -1132,6 +1154,7 @@ fn anon(
 }
 
 // `if` with its test, its block and perhaps `else` with another `if` or a block.
+#[cycle(exprs)]
 fn cond(
     text: &[u8],
     tokens: &[u32],
@@ -1192,6 +1215,7 @@ fn cond(
 }
 
 // `match` with its value and its cases. An Eol before its closing brace is not taken where there is no case.
+#[cycle(exprs)]
 fn arms(
     text: &[u8],
     tokens: &[u32],
@@ -1277,6 +1301,7 @@ fn arms(
 }
 
 // Rust's parse_match_case.
+#[cycle(exprs)]
 fn case(
     text: &[u8],
     tokens: &[u32],
@@ -1315,6 +1340,7 @@ fn case(
 }
 
 // `loop`, `while` and `for`.
+#[cycle(exprs)]
 fn loops(
     text: &[u8],
     tokens: &[u32],
@@ -1357,6 +1383,7 @@ fn loops(
 }
 
 // `{` where an expression may begin: an empty table, a table whose first key and colon are attempted, or a block.
+#[cycle(exprs)]
 fn brace(
     text: &[u8],
     tokens: &[u32],
@@ -1418,6 +1445,7 @@ fn brace(
 }
 
 // A table from behind its first key and colon on.
+#[cycle(exprs)]
 fn table(
     text: &[u8],
     tokens: &[u32],
@@ -1482,6 +1510,7 @@ fn table(
 }
 
 // Rust's parse_table_key_and_colon.
+#[cycle(exprs)]
 fn key(
     text: &[u8],
     tokens: &[u32],
@@ -1510,6 +1539,7 @@ fn key(
 }
 
 // One item, by its rule; a property is Rust's parse_table_property.
+#[cycle(exprs)]
 fn item(
     text: &[u8],
     tokens: &[u32],
@@ -1545,6 +1575,7 @@ fn item(
 }
 
 // Rust's parse_items_until, for the item rules of expressions.
+#[cycle(exprs)]
 fn items(
     text: &[u8],
     tokens: &[u32],
@@ -1612,6 +1643,7 @@ fn items(
 }
 
 // `glo`: a function, an effect, or an assignment to a name.
+#[cycle(exprs)]
 fn glo(
     text: &[u8],
     tokens: &[u32],
@@ -1683,6 +1715,7 @@ fn glo(
 }
 
 // An expression, or the assignment that it begins.
+#[cycle(exprs)]
 fn assign(
     text: &[u8],
     tokens: &[u32],
@@ -1742,6 +1775,7 @@ fn assign(
 }
 
 // An assignment, with an operator or without, whose sign of this kind stands here.
+#[cycle(exprs)]
 fn set(
     text: &[u8],
     tokens: &[u32],
@@ -1801,6 +1835,7 @@ fn set(
 }
 
 // The right side of an assignment, behind its sign.
+#[cycle(exprs)]
 fn rhs(
     text: &[u8],
     tokens: &[u32],
@@ -1825,6 +1860,7 @@ fn rhs(
 }
 
 // An assignment to a name with a type: a Colon after anything but a plain name is an error.
+#[cycle(exprs)]
 fn typed(
     text: &[u8],
     tokens: &[u32],
@@ -1890,6 +1926,7 @@ fn typed(
 }
 
 // An assignment to several, of one value or of as many.
+#[cycle(exprs)]
 fn many(
     text: &[u8],
     tokens: &[u32],
@@ -1951,6 +1988,7 @@ fn many(
 }
 
 // The further left sides, each behind its comma.
+#[cycle(exprs)]
 fn lhs(
     text: &[u8],
     tokens: &[u32],
@@ -2000,6 +2038,7 @@ fn lhs(
 }
 
 // As many right sides as left ones, each behind its comma but the first.
+#[cycle(exprs)]
 fn each(
     text: &[u8],
     tokens: &[u32],

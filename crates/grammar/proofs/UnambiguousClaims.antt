@@ -18,8 +18,8 @@ use Rattle.grammar.specs.Derives.{Derives}
 use Rattle.grammar.specs.Derives as g
 use Rattle.grammar.specs.Builders.{Shape}
 use Rattle.grammar.specs.Shape.{shape}
+
 -- so that the trees and words there are checked first
-use Rattle.grammar.proofs.ExampleTrees
 
 -- an expression of no form that a Colon could stand behind, with a Colon behind it: so a key looks to a statement
 pub record Behind (f : Form) (q : Place) : Type 0 where

@@ -18,7 +18,6 @@ use Rattle.grammar.specs.Derives as g
 use Rattle.grammar.specs.Builders.{only, made, handled}
 use Rattle.grammar.specs.Shape.{shape}
 use Rattle.grammar.specs.Words.{among}
-use Rattle.grammar.proofs.Examples.{sum}
 use Rattle.grammar.proofs.FirstKinds.{opening-apart}
 use Rattle.grammar.proofs.Starts.{starts}
 use Rattle.grammar.proofs.UnambiguousClaims.{Agree, Alike}

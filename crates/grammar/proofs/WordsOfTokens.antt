@@ -12,8 +12,8 @@ use Rattle.grammar.specs.Places.{Token, Place, kind_in, span_in, past, kind_of, 
 use Rattle.grammar.specs.Derives.{Compound}
 use Rattle.grammar.specs.Derives as by
 use Rattle.grammar.specs.Words.{among, word_kinds, range, given, token_words}
+
 -- so that the trees and words there are checked first
-use Rattle.grammar.proofs.ExampleTrees
 
 -- a kind that is no word
 abbrev pub NoWord : ℕ → Type 0

@@ -1,1 +1,2 @@
 // The grammar of Lucia as derivations over token lists: definitions and proofs alone.
+#![tactic(auto)]

@@ -1,9 +1,13 @@
 // Reads integer spellings with Rust's answers from standard input, asks `ints::int_value` for each, and writes how many there are
 // and how many differ, after the number of each one that does. oracle/ints/README.md says what a case is.
+#![tactic(auto)]
+
 ghost use Rattle.std.specs.Prelude.{◌≤◌};
 
 use ints::{IntAnswer, Sign};
-use libc::STDOUT_FILENO;
+
+// The number of the open file of a program that is the standard output.
+const STDOUT_FILENO: i32 = 1;
 
 // What a case holds besides its spelling: a byte for its length, one for the answer, eight for the magnitude.
 const FRAME: usize = 10;

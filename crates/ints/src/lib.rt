@@ -1,4 +1,6 @@
 // An integer's spelling to its sign and magnitude, or to its fault, read from the text where it stands.
+#![tactic(auto)]
+
 ghost use Rattle.std.specs.Prelude.{◌≡◌, ◌-◌, ◌*◌, ◌^◌, ◌<◌, ◌≤◌, min, leb, drop};
 ghost use Rattle.kinds.specs.Text.{part};
 ghost use Rattle.ints.specs.Spelling.{kept, digit_of, radix_by, radix_of, after_prefix};
@@ -6,14 +8,14 @@ ghost use Rattle.ints.specs.Answer.{largest, beyond, number_of, afterwards, from
 ghost use Rattle.ints.specs.Reading.{unread};
 
 // The sign that a spelling has. It is kept beside the magnitude, since callers treat `-` before and inside a literal differently.
-#[derive(Drop)]
+#[derive(Clone, Copy)]
 pub enum Sign {
     Absent,
     Plus,
     Minus,
 }
 
-#[derive(Drop)]
+#[derive(Clone, Copy)]
 pub enum IntFault {
     Empty,
     InvalidDigit,
@@ -22,14 +24,14 @@ pub enum IntFault {
 }
 
 // A magnitude is at most 2^63, and 2^63 only with Minus.
-#[derive(Drop)]
+#[derive(Clone, Copy)]
 pub enum IntAnswer {
     Value(Sign, u64),
     Fault(IntFault),
 }
 
 // The next byte that is no underscore, with the place after it.
-#[derive(Drop)]
+#[derive(Clone, Copy)]
 enum Next {
     Byte(u8, usize),
     End,
@@ -156,7 +158,7 @@ fn from_str_radix(s: &[u8], first: Next, radix: u64) -> IntAnswer
 }
 
 // What stands after the prefix, with the radix that the prefix names.
-#[derive(Drop)]
+#[derive(Clone, Copy)]
 struct Prefixed {
     radix: u64,
     first: Next,

@@ -1,4 +1,6 @@
 // The token kinds, the operators and the type words: what is fixed before any text is read.
+#![tactic(auto)]
+
 pub mod operator;
 pub mod table;
 pub mod types;

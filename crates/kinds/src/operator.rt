@@ -8,7 +8,7 @@ use super::{
     OR, REM, REM_ASSIGN, SUB, SUB_ASSIGN,
 };
 
-#[derive(Drop)]
+#[derive(Clone, Copy)]
 pub enum BinOp {
     Add,
     Sub,
@@ -26,7 +26,7 @@ pub enum BinOp {
     Is,
 }
 
-#[derive(Drop)]
+#[derive(Clone, Copy)]
 pub enum Operator {
     Binary(BinOp),
     Nothing,

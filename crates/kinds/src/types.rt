@@ -4,7 +4,7 @@ ghost use Rattle.kinds.specs.Text.{part};
 ghost use Rattle.kinds.specs.Spelling.{equal};
 ghost use Rattle.kinds.specs.TypeWords.{type_word, type_number, type_name_place};
 
-#[derive(Drop)]
+#[derive(Clone, Copy)]
 pub enum ValueType {
     Null,
     Bool,
@@ -18,7 +18,7 @@ pub enum ValueType {
     UserData,
 }
 
-#[derive(Drop)]
+#[derive(Clone, Copy)]
 pub enum TypeWord {
     Known(ValueType),
     Unknown,

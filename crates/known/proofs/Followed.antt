@@ -4,7 +4,7 @@ use Prim.Native.Nat.{ℕ}
 use mathlib.Core.Path.{◌≡◌, refl, sym, ap, ◌∙◌}
 use mathlib.Core.List.{List, map}
 use native.Mathlib.Omega.{arith}
-use lib.ListN.{length, replicate, length-replicate, get_or}
+use lib.ListN.{replicate, length-replicate, get_or}
 use Rattle.grammar.specs.Follows.{Follows}
 use Rattle.marks.specs.Marks.{marks, readings}
 use Rattle.parser.specs.Parse.{parse}

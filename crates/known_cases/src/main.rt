@@ -1,9 +1,13 @@
 // Lists the sheets whose outcomes the document tells. stdout has the original's answers; where it has none, at `fn f () {+}` and at the
 // string that is refused, those of the document's rules.
+#![tactic(auto)]
+
 ghost use Rattle.std.specs.Prelude.{◌<◌};
 
 use answer::answer;
-use libc::STDOUT_FILENO;
+
+// The number of the open file of a program that is the standard output.
+const STDOUT_FILENO: i32 = 1;
 
 // The tokens of `fn f () {+}`.
 const KEPT: [u8; 20] = [

@@ -10,8 +10,8 @@ use Rattle.cursor.specs.Tree.{Trees, none, join}
 use Rattle.lengths.specs.Sorts.{Sort, Of}
 use Rattle.lengths.specs.Children.{Part, each, one, total, children}
 use Rattle.lengths.specs.Told.{Told, no_more, no_more_of, one_of, width, Counted, counted_none, counted-node}
+
 -- so that the children counted there are checked first
-use Rattle.lengths.proofs.Counts
 
 -- a row of one
 abbrev pub Single : Sort → Trees → Type 0

@@ -1,8 +1,14 @@
 // Lists hand-made buffers, sound, damaged and cyclic ones. cases.py says what a case is, makes them, and lists them by itself.
+#![tactic(auto)]
+
 ghost use Rattle.std.specs.Prelude.{◌≤◌, ◌<◌};
 
-use libc::{STDIN_FILENO, STDOUT_FILENO};
 use listing::{Counts, Listed};
+
+// The numbers of the open files of a program: the standard input and output.
+const STDIN_FILENO: i32 = 0;
+
+const STDOUT_FILENO: i32 = 1;
 
 // The words of a case: eight that say what is reported and lent, 96 of nodes, 24 of errors.
 const CASE: usize = 128;

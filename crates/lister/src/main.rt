@@ -1,6 +1,12 @@
 // The lister: a bundle from standard input, its listing to standard output.
+#![tactic(auto)]
+
 use answer::answer;
-use libc::{STDIN_FILENO, STDOUT_FILENO};
+
+// The numbers of the open files of a program: the standard input and output.
+const STDIN_FILENO: i32 = 0;
+
+const STDOUT_FILENO: i32 = 1;
 
 fn print(out: &[u8; 262144], end: usize) {
     let bytes: &[u8] = out;

@@ -28,7 +28,7 @@ use Rattle.listing.proofs.page.put_byte.Reads as put_byte
 use Rattle.listing.proofs.page.put_bytes.Reads as put-bytes
 use Rattle.listing.proofs.page.put_integer.Reads as put-integer
 use Rattle.listing.proofs.page.put_number.Reads as put-number
-use Rattle.listing.proofs.walk.node_lines.Reads as Node-Lines
+use Rattle.listing.proofs.walk.node_lines.Reads as node-lines
 use Rattle.listing.proofs.walk.within.Reads as within
 
 -- an answer and what the buffers hold, told as one value, can be read off it again
@@ -97,7 +97,7 @@ one-node-line κs args r s x y p q = both pages r s x.0.now y.0.now p q
 pub one-error-line : (κs : _) (args : _) (r s : _) (x y : _) → error-line.Post κs args r x → error-line.Post κs args s y → (r ≡ s) × (x.1.1.0.now ≡ y.1.1.0.now)
 one-error-line κs args r s x y p q = both pages r s x.1.1.0.now y.1.1.0.now p q
 
-pub one-node-lines : (κs : _) (args : _) (r s : _) (x y : _) → Node-Lines.Post κs args r x → Node-Lines.Post κs args s y → (r ≡ s) × (x.1.0.now ≡ y.1.0.now)
+pub one-node-lines : (κs : _) (args : _) (r s : _) (x y : _) → node-lines.Post κs args r x → node-lines.Post κs args s y → (r ≡ s) × (x.1.0.now ≡ y.1.0.now)
 one-node-lines κs args r s x y p q = both pages r s x.1.0.now y.1.0.now p q
 
 -- a contract that is an equation with the answer

@@ -10,7 +10,7 @@ const BOTH_COUNTS: usize = 8;
 const TOKEN_BYTES: usize = 9;
 
 // The bytes of the text and the tokens that the buffers now hold; or refusal 12.
-#[derive(Drop)]
+#[derive(Clone, Copy)]
 pub enum Decoded {
     Sheet(usize, usize),
     Refused,

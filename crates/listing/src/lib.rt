@@ -1,4 +1,6 @@
 // Bundle in, listing out: what the lister reads and what it prints, in lent buffers. docs/LAYOUT.md says what a record holds.
+#![tactic(auto)]
+
 mod bundle;
 mod lines;
 mod list;

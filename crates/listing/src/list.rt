@@ -10,7 +10,7 @@ use crate::walk::{node_lines, within};
 use cursor::records::ERROR_WORDS;
 
 // What a reading reports.
-#[derive(Drop)]
+#[derive(Clone, Copy)]
 pub struct Counts {
     pub reads: u32,
     pub nodes: u32,
@@ -18,7 +18,7 @@ pub struct Counts {
 }
 
 // How many bytes the listing has, or that the buffer is too short for it.
-#[derive(Drop)]
+#[derive(Clone, Copy)]
 pub enum Listed {
     Written(usize),
     NoRoom,

@@ -27,7 +27,7 @@ const NOT_PLACE: usize = 37;
 const NEG_PLACE: usize = 406;
 
 // A place of a name, if there is one.
-#[derive(Drop)]
+#[derive(Clone, Copy)]
 pub enum Word {
     At(usize),
     Nothing,

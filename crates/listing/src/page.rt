@@ -4,7 +4,7 @@ ghost use Rattle.listing.specs.Page.{page, emits};
 ghost use Rattle.listing.specs.Decimal.{decimal, integer};
 
 // Where the next byte goes, and where the counting stops.
-#[derive(Drop)]
+#[derive(Clone, Copy)]
 pub struct Pen {
     pub at: usize,
     pub room: usize,

@@ -10,7 +10,7 @@ use cursor::Label;
 use cursor::records::{END, FIRST, FLAGS, KIND, NEXT, NODE_WORDS, ONE, START, TWO};
 
 // Where the pen stands, and how many records may still be printed.
-#[derive(Drop)]
+#[derive(Clone, Copy)]
 pub struct Walked {
     pub pen: Pen,
     pub left: u32,

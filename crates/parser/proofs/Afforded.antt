@@ -6,7 +6,7 @@ use Prim.Native.Nat.{ℕ}
 use native.Mathlib.Omega.{arith}
 use lib.ListN.{length, replicate, length-replicate}
 use Rattle.cursor.specs.declared.Failure.{Failure}
-use Rattle.cursor.specs.Rule.{world, begin, refused, Out, done, failed}
+use Rattle.cursor.specs.Rule.{world, begin, fault, refused, Out, done, failed}
 use Rattle.cursor.specs.Checks.{live_room}
 use Rattle.entry.specs.declared.Entry.TheVariants as entries
 use Rattle.entry.specs.Check.{entry_of}
@@ -45,6 +45,7 @@ module _ (text tokens : List ℕ) (allowance : ℕ) (f : Follows text tokens) wh
     refused = λ _. short.few-readings (omega (arith, h, cost-marks f));
   }
   by_end n e x m l (failed (refused k)) never (lacks full) = absurd (never _ refl refl)
+  by_end n e x m l (failed (fault _ _ _)) never r = elim r [ ]
 
   pub afforded : (n e x : List ℕ) → entry_of text tokens ≡ entries.Fit → Afforded f allowance n (parse text tokens allowance n e x).number
   unfolding parse reading

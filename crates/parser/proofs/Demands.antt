@@ -97,6 +97,7 @@ module _ (text tokens : List ℕ) (allowance : ℕ) where
       by-reading : (fit : entry_of text tokens ≡ entries.Fit) (n e x : List ℕ) (o : Out ℕ) → Finds lent (within allowance).depth f (world n e x (replicate live_room 0)) o → ((finished n e x o).number ≡ 0 → 0 < (finished n e x o).nodes) → (finished n e x o).number ≡ 0 → Faultless f (finished n e x o)
       unfolding finished
       by-reading fit n e x (done s w link) (finds k) has q = record { errors = k.errors; expected = k.wanted; nodes = k.nodes ∙ sym (size-all f); reads = k.reads ∙ cost-marks f }
+      by-reading fit n e x (failed (fault _ _ _)) r has q = elim r [ ]
       by-reading fit n e x (failed (refused k)) r has q = let h = has q in absurd (omega (arith, h))
 
       by-check : (c : Entry) → entry_of text tokens ≡ c → ((parse text tokens allowance n e x).number ≡ 0 → 0 < (parse text tokens allowance n e x).nodes) → (parse text tokens allowance n e x).number ≡ 0 → Faultless f (parse text tokens allowance n e x)

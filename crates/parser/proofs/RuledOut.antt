@@ -8,14 +8,14 @@ use Prim.Native.Nat.{ℕ}
 use borrow.Author.Tests.{eqb-false}
 use lib.Dec.{eqb}
 use lib.ListN.{get_or}
-use denote.Ref.{Bor}
+use denote.MutBor.{MutBor}
 use Rattle.parser.specs.Blank.{up_to}
 use Rattle.parser.proofs.clear.clear_words.Reads as clear-words
 use Rattle.parser.proofs.clear.clear_bytes.Reads as clear-bytes
 
 -- a slice that is lent, by what it holds
-abbrev lent : List ℕ → Bor (List ℕ)
-lent xs = record { ref_ptr = (0, 0); now = xs }
+abbrev lent : List ℕ → MutBor (List ℕ)
+lent xs = record { ref_ptr = (0, 0); ghost_name = 0; now = xs }
 
 abbrev sevens : List ℕ
 sevens = 7 ∷ 7 ∷ 7 ∷ []

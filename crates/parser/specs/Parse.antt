@@ -2,7 +2,6 @@
 use Rattle.std.specs.Prelude.{ℕ, List, replicate}
 use Rattle.cursor.specs.Checks.{live_room}
 use Rattle.cursor.specs.Rule.{world, begin}
-use Rattle.entry.specs.declared.Entry.{Entry}
 use Rattle.entry.specs.declared.Entry.TheVariants as entries
 use Rattle.entry.specs.Check.{refusal_number, entry_of}
 use Rattle.parts.specs.declared.values.Left.{Left}

@@ -1,4 +1,6 @@
-// The parser: `parse`, the function that a till calls, and the same for C.
+// The parser: `parse`, the function that a till calls, and the same with the counts apart, which the crate parser_c exports for C.
+#![tactic(auto)]
+
 ghost use Rattle.std.specs.Prelude.{◌≡◌, List, ℕ};
 ghost use Rattle.cursor.specs.Rule.{world, failed};
 ghost use Rattle.cursor.specs.Answers.{as_stop};
@@ -30,7 +32,7 @@ const LIVE: usize = 1024;
 const NEVER: u8 = 255;
 
 // What a reading reports: its readings, and how many node records, error records and expected kinds it left.
-#[derive(Drop)]
+#[derive(Clone, Copy)]
 pub struct Reading {
     pub reads: u32,
     pub nodes: u32,
@@ -38,7 +40,7 @@ pub struct Reading {
     pub expected: u32,
 }
 
-#[derive(Drop)]
+#[derive(Clone, Copy)]
 pub enum Answer {
     Read(Reading),
     Refused(u8),
@@ -105,7 +107,7 @@ pub fn parse(
 }
 
 // An answer's number and counts, apart.
-#[derive(Drop)]
+#[derive(Clone, Copy)]
 struct Told {
     number: u8,
     reading: Reading,
@@ -129,10 +131,9 @@ fn number_of(answer: Answer) -> Told
     }
 }
 
-// The same for C and Rust: the answer's number, with the four counts where the caller says (readings, node records, errors, expected kinds). A slice is
-// passed as a pointer and a length. The promises are those of `parse`, of what the caller is handed.
-#[unsafe(no_mangle)]
-pub extern "C" fn lucia_parse(
+// The same for C and Rust: the answer's number, with the four counts where the caller says (readings, node records, errors, expected kinds). The promises
+// are those of `parse`, of what the caller is handed.
+pub fn lucia_parse(
     text: &[u8],
     tokens: &[u32],
     allowance: u32,

@@ -1,5 +1,5 @@
 -- Each way through the statement `effect`.
-use mathlib.Core.Path.{◌≡◌, ◌∙◌}
+use mathlib.Core.Path.{◌≡◌}
 use mathlib.Core.Bool.{Bool, false}
 use Prim.Native.Nat.{ℕ}
 use lib.Dec.{ltb}
@@ -16,7 +16,7 @@ use Rattle.cursor.specs.Checks.{expect}
 use Rattle.cursor.specs.Records.{add, no_kids, flagged}
 use Rattle.types.specs.declared.items.Items.{Items}
 use Rattle.types.specs.Lits.{ident}
-use Rattle.types.specs.Items.{start, close, add_some, is_ended}
+use Rattle.types.specs.Items.{close, add_some, is_ended}
 use Rattle.types.specs.Types.{params, returns}
 use Rattle.types.specs.Patterns.{span_of}
 use Rattle.types.proofs.TypePaths.{starts}

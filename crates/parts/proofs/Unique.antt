@@ -2,9 +2,7 @@
 -- is what they leave in the lent buffers, unless the whole reading was refused (cursor's Told). `Post` is the contract as the check reads it
 -- from the source; a contract that holds for all contents of the buffers that a function does not see is used at empty ones.
 -- Assumes nothing.
-use mathlib.Core.Path.{◌≡◌, sym, ap, ◌∙◌}
-use mathlib.Core.List.{List, []}
-use Prim.Native.Nat.{ℕ}
+use Rattle.std.proofs.Common.{◌≡◌, ℕ, List, [], sym, ap, ◌∙◌}
 use Rattle.cursor.specs.declared.State.{State}
 use Rattle.cursor.specs.declared.Limits.{Limits}
 use Rattle.cursor.specs.Rule.{World, world, Out}

@@ -3,7 +3,7 @@ use Rattle.std.specs.Prelude.{ℕ, zero, suc, Bool, true, false, ltb, eqb}
 use Rattle.cursor.specs.declared.Kids.{Kids}
 use Rattle.cursor.specs.declared.Ranged.{Ranged}
 use Rattle.cursor.specs.Node as node
-use Rattle.cursor.specs.Rule.{Rule, ◌>>=◌, ◌>>◌, give, Next, more}
+use Rattle.cursor.specs.Rule.{Rule, ◌>>=◌, give, Next, more}
 use Rattle.cursor.specs.Records.{add, reflag, no_kids, flagged}
 use Rattle.types.specs.declared.items.Items.{Items}
 use Rattle.types.specs.Items.{close, over, add_some, is_ended}

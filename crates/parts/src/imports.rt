@@ -16,7 +16,7 @@ use types::lits::ident;
 
 // What an import names: the row of its path's names, then the alias or the items; how many names and items there are; and which form it
 // has: simple, simple with an alias (one), nested (two) or glob (both).
-#[derive(Drop)]
+#[derive(Clone, Copy)]
 pub struct Imported {
     pub kids: Kids,
     pub names: u32,
@@ -25,7 +25,7 @@ pub struct Imported {
     pub two: bool,
 }
 
-#[derive(Drop)]
+#[derive(Clone, Copy)]
 pub enum Along {
     More(State, Kids),
     Done(State, Imported),

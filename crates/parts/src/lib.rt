@@ -1,4 +1,6 @@
 // What expressions and statements are made of, apart from the cycle that they are.
+#![tactic(auto)]
+
 pub mod effects;
 pub mod forms;
 pub mod imports;

@@ -34,21 +34,21 @@ pub const ELEMENTS: u32 = 1;
 pub const PROPERTIES: u32 = 2;
 
 // A `?` that may stand before a member, as a range.
-#[derive(Drop)]
+#[derive(Clone, Copy)]
 pub enum Asked {
     Mark(State, Ranged),
     Failed(Failure),
 }
 
 // Whether a `#` stands behind a member's opening token.
-#[derive(Drop)]
+#[derive(Clone, Copy)]
 pub enum Pounded {
     Mark(State, bool),
     Failed(Failure),
 }
 
 // The type that `is` asks for.
-#[derive(Drop)]
+#[derive(Clone, Copy)]
 pub enum Checked {
     Type(u8),
     Unknown,

@@ -5,14 +5,14 @@ ghost use Rattle.parts.specs.Values.{link_of, to_assign_left};
 use cursor::{Failure, Kids, Limits, State};
 
 // What a rule has left: the caller's limits and the depth.
-#[derive(Drop)]
+#[derive(Clone, Copy)]
 pub struct Left {
     pub limits: Limits,
     pub depth: u32,
 }
 
 // What is still open of a Call: its last child, with the handlers that were counted behind it; its arguments, and whether it has a trailing lambda.
-#[derive(Drop)]
+#[derive(Clone, Copy)]
 pub struct Called {
     pub kids: Kids,
     pub arguments: u32,
@@ -20,7 +20,7 @@ pub struct Called {
 }
 
 // The link to an expression's record, and which expression it is as far as a rule asks: a plain name, a member of a name without `?`, a Call.
-#[derive(Drop)]
+#[derive(Clone, Copy)]
 pub enum Expr {
     Name(u32),
     NameMember(u32),
@@ -28,28 +28,28 @@ pub enum Expr {
     Other(u32),
 }
 
-#[derive(Drop)]
+#[derive(Clone, Copy)]
 pub enum Parsed {
     Node(State, Expr),
     Failed(Failure),
 }
 
 // The answer of a turn over expressions: go on with a longer one, or stop.
-#[derive(Drop)]
+#[derive(Clone, Copy)]
 pub enum Chained {
     More(State, Expr),
     Stop(State, Expr),
     Failed(Failure),
 }
 
-#[derive(Drop)]
+#[derive(Clone, Copy)]
 pub enum Rowed {
     Row(State, Kids),
     Failed(Failure),
 }
 
 // Rust's Option of an AssignLeft: it takes over its expression's record.
-#[derive(Drop)]
+#[derive(Clone, Copy)]
 pub enum AssignLeft {
     To(u32),
     Nothing,

@@ -4,14 +4,14 @@
 use mathlib.Core.List.{List, [], ◌∷◌}
 use Prim.Native.Nat.{ℕ}
 use native.Mathlib.Omega.{arith}
-use denote.Ref.{Bor}
+use denote.MutBor.{MutBor}
 use Rattle.pieces.specs.declared.Piece.TheVariants as piece
 use Rattle.pieces.proofs.word.Reads as word
 use Rattle.pieces.proofs.read.Reads as read
 
 -- room that is lent
-abbrev lent : List ℕ → Bor (List ℕ)
-lent xs = record { ref_ptr = (0, 0); now = xs }
+abbrev lent : List ℕ → MutBor (List ℕ)
+lent xs = record { ref_ptr = (0, 0); ghost_name = 0; now = xs }
 
 -- 1, the lowest byte first
 pub word-highest-first : (κs : _) (x : _) → word.Post κs (1, (0, (0, (0, tt)))) 16777216 x → ⊥

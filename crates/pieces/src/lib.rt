@@ -1,12 +1,17 @@
 // A stream of pieces, each behind its length in four bytes: reading one from standard input, writing one to standard output, and the last
 // one, which says how many sheets the others were, so that a stream cut short is seen. No contract can say what is read or written.
+#![tactic(auto)]
+
 ghost use Rattle.std.specs.Prelude.{◌≡◌, length};
 ghost use Rattle.pieces.specs.Pieces.{spelled, four_bytes, Fits};
 
-use libc::{STDIN_FILENO, STDOUT_FILENO};
+// The numbers of the open files of a program: the standard input and output.
+const STDIN_FILENO: i32 = 0;
+
+const STDOUT_FILENO: i32 = 1;
 
 // How many bytes of a piece the room now begins with; or the end of the stream, where nothing more comes or a piece has no room.
-#[derive(Drop)]
+#[derive(Clone, Copy)]
 pub enum Piece {
     Bytes(usize),
     End,

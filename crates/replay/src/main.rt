@@ -1,5 +1,7 @@
 // Replays stored bundles: a stream of them from standard input, each piece behind its length, and the stream of their listings to
 // standard output, which the gate holds to the stored answers. The last piece says how many they were, so that a stream cut short is seen.
+#![tactic(auto)]
+
 use answer::answer;
 use pieces::Piece;
 

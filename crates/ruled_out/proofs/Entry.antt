@@ -57,12 +57,12 @@ unfolding entry_of tokens_fault token_fault arrives first_fit fits
 entry-check-range-before-kind κs x p = apart number p refl
 
 -- a text of one byte more than is allowed, whatever its bytes and tokens
-too_long : (text tokens : List ℕ) → length text ≡ 65536 → entry_of text tokens ≡ entries.Refused refusals.TextTooLong
+too-long : (text tokens : List ℕ) → length text ≡ 65536 → entry_of text tokens ≡ entries.Refused refusals.TextTooLong
 unfolding entry_of
-too_long text tokens h = rw h
+too-long text tokens h = rw h
 
 pub entry-check-text-limit : (κs : _) (x : _) (text tokens : List ℕ) → length text ≡ 65536 → entry-check.Post κs (lent text, (lent tokens, tt)) entries.Fit x → ⊥
-entry-check-text-limit κs x text tokens h p = apart number (p ∙ too_long text tokens h) refl
+entry-check-text-limit κs x text tokens h p = apart number (p ∙ too-long text tokens h) refl
 
 pub entry-check-tokens-before-text : (κs : _) (x : _) (text tokens : List ℕ) → length text ≡ 65536 → entry-check.Post κs (lent text, (lent tokens, tt)) (entries.Refused refusals.TooManyTokens) x → ⊥
-entry-check-tokens-before-text κs x text tokens h p = apart number (p ∙ too_long text tokens h) refl
+entry-check-tokens-before-text κs x text tokens h p = apart number (p ∙ too-long text tokens h) refl

@@ -5,7 +5,7 @@ use mathlib.Core.List.{List, [], ◌∷◌}
 use mathlib.Core.Bool.{true}
 use Prim.Native.Nat.{ℕ}
 use lib.ListN.{get_or, replicate}
-use denote.Ref.{Bor}
+use denote.Ref.{Bor, MutBor}
 use Rattle.kinds.specs.Number as kind
 use Rattle.kinds.specs.Kinds.{is_trivia}
 use Rattle.kinds.specs.Operators.{binary_of}
@@ -39,11 +39,11 @@ use Rattle.rules.specs.Primary.{access, postfix_turn, primary_of}
 use Rattle.exprs.proofs.exprs.exprs.Reads as exprs
 use Rattle.exprs.proofs.exprs.prec.Reads as prec
 use Rattle.exprs.proofs.program.program.Reads as whole
-use Rattle.ruled_out.proofs.Small.{lent, blank, limits, state, row, apart, unlike, ended, word, answer, itself, sort}
+use Rattle.ruled_out.proofs.Small.{lent, lent_mut, blank, blank_mut, limits, state, row, apart, unlike, ended, word, answer, itself, sort}
 
 -- what is lent and handed to each of them at the start of a sheet: the tokens, room for five records, so many levels, and the rest
-abbrev begun : {A : Type 0} → List ℕ → ℕ → A → Bor (List ℕ) × (Bor (List ℕ) × (Bor (List ℕ) × (Bor (List ℕ) × (Bor (List ℕ) × (Bor (List ℕ) × (Left × (State × A)))))))
-begun tokens depth rest = (blank, (lent tokens, (lent (replicate 40 0), (blank, (blank, (blank, (record { limits = limits; depth = depth }, (begin, rest))))))))
+abbrev begun : {A : Type 0} → List ℕ → ℕ → A → Bor (List ℕ) × (Bor (List ℕ) × (MutBor (List ℕ) × (MutBor (List ℕ) × (MutBor (List ℕ) × (MutBor (List ℕ) × (Left × (State × A)))))))
+begun tokens depth rest = (blank, (lent tokens, (lent_mut (replicate 40 0), (blank_mut, (blank_mut, (blank_mut, (record { limits = limits; depth = depth }, (begin, rest))))))))
 
 -- `a`, and `(a)`
 abbrev name : List ℕ

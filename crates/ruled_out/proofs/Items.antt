@@ -33,10 +33,10 @@ use Rattle.types.proofs.items.pair.Reads as record-pair
 use Rattle.types.proofs.items.add_some.Reads as add-some
 use Rattle.types.proofs.items.is_ended.Reads as is-ended
 use Rattle.types.proofs.items.after_item.Reads as after-item
-use Rattle.types.proofs.items.after_last.Reads as after_last
-use Rattle.types.proofs.patterns.span_of.Reads as Span-of
+use Rattle.types.proofs.items.after_last.Reads as after-last
+use Rattle.types.proofs.patterns.span_of.Reads as span-of
 use Rattle.types.proofs.patterns.pattern.Reads as read-pattern
-use Rattle.ruled_out.proofs.Small.{lent, room, blank, limits, state, span, row, apart, unlike, ended, left, word, answer}
+use Rattle.ruled_out.proofs.Small.{lent, room, blank, blank_mut, limits, state, span, row, apart, unlike, ended, left, word, answer}
 
 -- `a`, from byte 2 to 5; `null`; `)`; `,`
 abbrev name : List ℕ
@@ -74,11 +74,11 @@ pub lit-of-a-name : (κs : _) (x : _) → read-lit.Post κs (blank, (lent name, 
 unfolding lit lit_at lit_from literal unexpected kind_at range_at count
 lit-of-a-name κs x p = apart ended (p [] [] []) refl
 
-pub ident-of-a-literal : (κs : _) (x : _) → read-ident.Post κs (lent null, (room, (blank, (limits, (begin, tt))))) (builds.Node (state 1 4 1 1 0) 1) x → ⊥
+pub ident-of-a-literal : (κs : _) (x : _) → read-ident.Post κs (lent null, (room, (blank_mut, (limits, (begin, tt))))) (builds.Node (state 1 4 1 1 0) 1) x → ⊥
 unfolding ident ident_at expect eat check want unexpected kind_at range_at count
 ident-of-a-literal κs x p = apart ended (p [] [] []) refl
 
-pub ident-ends-at-its-start : (κs : _) (x : _) → read-ident.Post κs (lent name, (room, (blank, (limits, (begin, tt))))) (builds.Node (state 1 5 1 1 0) 1) x → get_or x.1.0.now END 0 ≡ 2 → ⊥
+pub ident-ends-at-its-start : (κs : _) (x : _) → read-ident.Post κs (lent name, (room, (blank_mut, (limits, (begin, tt))))) (builds.Node (state 1 5 1 1 0) 1) x → get_or x.1.0.now END 0 ≡ 2 → ⊥
 unfolding ident ident_at expect eat check bump kind_at range_at count append write put
 ident-ends-at-its-start κs x p h = unlike (word END) (p [] [] []) h refl
 
@@ -125,35 +125,35 @@ abbrev counted : Next Items → ℕ
 counted (more i) = i.kids.count
 counted (stop i) = i.kids.count
 
-pub after-item-goes-on-at-the-end : (κs : _) (x : _) → after-item.Post κs (lent shut, (room, (blank, (limits, (begin, (kind.CloseParen, (row 0 0 0, (1, tt)))))))) (turned.More (state 1 1 1 0 0) (row 1 1 1)) x → ⊥
+pub after-item-goes-on-at-the-end : (κs : _) (x : _) → after-item.Post κs (lent shut, (room, (blank_mut, (limits, (begin, (kind.CloseParen, (row 0 0 0, (1, tt)))))))) (turned.More (state 1 1 1 0 0) (row 1 1 1)) x → ⊥
 unfolding after_item add eat_eol eat_trivia eol_turn iterate turns eat check bump past_trivia past_from is_trivia kind_at count
 after-item-goes-on-at-the-end κs x p = apart (answer goes_on) (p [] [] []) refl
 
-pub after-item-not-joined : (κs : _) (x : _) → after-item.Post κs (lent shut, (room, (blank, (limits, (begin, (kind.CloseParen, (row 0 0 0, (1, tt)))))))) (turned.Stop (state 1 1 1 0 0) (row 0 0 0)) x → ⊥
+pub after-item-not-joined : (κs : _) (x : _) → after-item.Post κs (lent shut, (room, (blank_mut, (limits, (begin, (kind.CloseParen, (row 0 0 0, (1, tt)))))))) (turned.Stop (state 1 1 1 0 0) (row 0 0 0)) x → ⊥
 unfolding after_item add eat_eol eat_trivia eol_turn iterate turns eat check bump past_trivia past_from is_trivia kind_at count
 after-item-not-joined κs x p = apart (answer counted) (p [] [] []) refl
 
-pub after-last-takes-a-comma : (κs : _) (x : _) → after_last.Post κs (lent comma, (blank, (limits, (begin, (kind.CloseParen, (so (row 1 1 1), tt)))))) (listeds.Row (state 1 1 1 0 0) (so (row 1 1 1))) x → ⊥
+pub after-last-takes-a-comma : (κs : _) (x : _) → after-last.Post κs (lent comma, (blank_mut, (limits, (begin, (kind.CloseParen, (so (row 1 1 1), tt)))))) (listeds.Row (state 1 1 1 0 0) (so (row 1 1 1))) x → ⊥
 unfolding after_last eat_eol eat_trivia eol_turn iterate turns expect eat check want unexpected past_trivia past_from is_trivia kind_at count
 after-last-takes-a-comma κs x p = apart ended (p [] [] [] []) refl
 
-pub after-last-end-not-taken : (κs : _) (x : _) → after_last.Post κs (lent shut, (blank, (limits, (begin, (kind.CloseParen, (so (row 1 1 1), tt)))))) (listeds.Row begin (so (row 1 1 1))) x → ⊥
+pub after-last-end-not-taken : (κs : _) (x : _) → after-last.Post κs (lent shut, (blank_mut, (limits, (begin, (kind.CloseParen, (so (row 1 1 1), tt)))))) (listeds.Row begin (so (row 1 1 1))) x → ⊥
 unfolding after_last eat_eol eat_trivia eol_turn iterate turns expect eat check bump past_trivia past_from is_trivia kind_at count
 after-last-end-not-taken κs x p = apart (λ o. (left o).at) (p [] [] [] []) refl
 
 -- patterns
 
-pub span-of-nowhere-not-empty : (κs : _) (x : _) → Span-of.Post κs (ranged.Nowhere, tt) (span 0 1) x → ⊥
+pub span-of-nowhere-not-empty : (κs : _) (x : _) → span-of.Post κs (ranged.Nowhere, tt) (span 0 1) x → ⊥
 span-of-nowhere-not-empty κs x p = apart (λ s. s.end) p refl
 
-pub span-of-start-alone : (κs : _) (x : _) → Span-of.Post κs (ranged.At (span 2 5), tt) (span 2 2) x → ⊥
+pub span-of-start-alone : (κs : _) (x : _) → span-of.Post κs (ranged.At (span 2 5), tt) (span 2 2) x → ⊥
 span-of-start-alone κs x p = apart (λ s. s.end) p refl
 
 -- `[` and a name, with one level: none is left for the name
-pub pattern-depth-not-lowered : (κs : _) (x : _) → read-pattern.Post κs (blank, (lent (kind.OpenBracket ∷ 0 ∷ 1 ∷ kind.Ident ∷ 1 ∷ 2 ∷ kind.CloseBracket ∷ 2 ∷ 3 ∷ []), (room, (blank, (limits, (begin, (1, tt))))))) (builds.Node (state 3 3 3 2 0) 2) x → ⊥
+pub pattern-depth-not-lowered : (κs : _) (x : _) → read-pattern.Post κs (blank, (lent (kind.OpenBracket ∷ 0 ∷ 1 ∷ kind.Ident ∷ 1 ∷ 2 ∷ kind.CloseBracket ∷ 2 ∷ 3 ∷ []), (room, (blank_mut, (limits, (begin, (1, tt))))))) (builds.Node (state 3 3 3 2 0) 2) x → ⊥
 unfolding patterns pattern pattern_row pattern_items pattern_item pattern_end items_until_with_last item_turn one_item start eat_eol eat_trivia eol_turn iterate turns eat check want bump choose past_trivia past_from is_trivia kind_at count
 pattern-depth-not-lowered κs x p = apart ended (p [] []) refl
 
-pub pattern-refused-for-readings : (κs : _) (x : _) → read-pattern.Post κs (blank, (lent name, (room, (blank, (limits, (begin, (0, tt))))))) (builds.Failed (refusal 10)) x → ⊥
+pub pattern-refused-for-readings : (κs : _) (x : _) → read-pattern.Post κs (blank, (lent name, (room, (blank_mut, (limits, (begin, (0, tt))))))) (builds.Failed (refusal 10)) x → ⊥
 unfolding patterns
 pattern-refused-for-readings κs x p = apart ended (p [] []) refl

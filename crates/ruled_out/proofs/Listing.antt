@@ -3,7 +3,7 @@ use mathlib.Core.Path.{refl}
 use mathlib.Core.List.{List, [], ◌∷◌}
 use Prim.Native.Nat.{ℕ, suc}
 use lib.ListN.{replicate}
-use denote.Ref.{Bor}
+use denote.Ref.{MutBor}
 use Rattle.listing.specs.declared.bundle.Decoded.TheVariants as decoded
 use Rattle.listing.specs.declared.list.Counts.{Counts}
 use Rattle.listing.specs.declared.list.Listed.TheVariants as listed
@@ -17,14 +17,14 @@ use Rattle.listing.proofs.decode.Reads as decode
 use Rattle.listing.proofs.listing.Reads as listing
 use Rattle.listing.proofs.lent_listing.Reads as lent-listing
 use Rattle.listing.proofs.refusal.Reads as refusal
-use Rattle.ruled_out.proofs.Small.{lent, blank, apart}
+use Rattle.ruled_out.proofs.Small.{lent, lent_mut, blank, blank_mut, apart}
 
 -- nothing was read: `read 0 reads 0 nodes 0 errors 0`, 32 bytes
 abbrev counts : Counts
 counts = record { reads = 0; nodes = 0; errors = 0 }
 
-abbrev bytes : ℕ → Bor (List ℕ)
-bytes n = lent (replicate n 0)
+abbrev bytes : ℕ → MutBor (List ℕ)
+bytes n = lent_mut (replicate n 0)
 
 -- how many bytes were written, and 1 more; 0 where there is no room
 abbrev size : Outcome → ℕ
@@ -71,11 +71,11 @@ taken (sheet n m text tokens) = 1
 taken (refused text tokens) = 0
 
 -- nothing at all
-pub decode-empty-bundle : (κs : _) (x : _) → decode.Post κs (blank, (blank, (blank, tt))) (decoded.Sheet 0 0) x → ⊥
+pub decode-empty-bundle : (κs : _) (x : _) → decode.Post κs (blank, (blank_mut, (blank_mut, tt))) (decoded.Sheet 0 0) x → ⊥
 unfolding decoded_into fits
 decode-empty-bundle κs x p = apart taken p refl
 
 -- one byte of text and no token
-pub decode-highest-byte-first : (κs : _) (x : _) → decode.Post κs (lent (1 ∷ 0 ∷ 0 ∷ 0 ∷ 97 ∷ 0 ∷ 0 ∷ 0 ∷ 0 ∷ []), (lent (0 ∷ []), (blank, tt))) decoded.Refused x → ⊥
+pub decode-highest-byte-first : (κs : _) (x : _) → decode.Post κs (lent (1 ∷ 0 ∷ 0 ∷ 0 ∷ 97 ∷ 0 ∷ 0 ∷ 0 ∷ 0 ∷ []), (lent_mut (0 ∷ []), (blank_mut, tt))) decoded.Refused x → ⊥
 unfolding decoded_into fits little
 decode-highest-byte-first κs x p = apart taken p refl

@@ -6,7 +6,7 @@ use Prim.Native.Nat.{ℕ}
 use borrow.Author.Tests.{eqb-false}
 use lib.Dec.{eqb}
 use lib.ListN.{get_or, replicate}
-use denote.Ref.{Bor}
+use denote.Ref.{Bor, MutBor}
 use Rattle.cursor.specs.declared.State.{State}
 use Rattle.cursor.specs.declared.Limits.{Limits}
 use Rattle.cursor.specs.declared.Span.{Span}
@@ -15,17 +15,23 @@ use Rattle.parts.specs.declared.values.Expr.{Expr}
 use Rattle.parts.specs.declared.values.Expr.TheVariants as sorts
 use Rattle.cursor.specs.Rule.{begin, fault, refused, Out, done, failed}
 
--- a slice or an array that is lent, by what it holds
+-- a slice or an array that is lent, by what it holds, and one that is lent to be written
 abbrev pub lent : List ℕ → Bor (List ℕ)
 lent xs = record { ref_ptr = (0, 0); now = xs }
 
+abbrev pub lent_mut : List ℕ → MutBor (List ℕ)
+lent_mut xs = record { ref_ptr = (0, 0); ghost_name = 0; now = xs }
+
 -- room for three node records
-abbrev pub room : Bor (List ℕ)
-room = lent (replicate 24 0)
+abbrev pub room : MutBor (List ℕ)
+room = lent_mut (replicate 24 0)
 
 -- a buffer that no one writes to here, or whose contents are not asked for
 abbrev pub blank : Bor (List ℕ)
 blank = lent []
+
+abbrev pub blank_mut : MutBor (List ℕ)
+blank_mut = lent_mut []
 
 -- readings enough for every sheet here
 abbrev pub limits : Limits

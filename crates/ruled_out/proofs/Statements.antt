@@ -32,7 +32,7 @@ use Rattle.parts.proofs.recovery.recovered.Reads as recovered
 use Rattle.parts.proofs.recovery.after_stmt.Reads as after-stmt
 use Rattle.parts.proofs.effects.effect_stmt.Reads as effect-stmt
 use Rattle.parts.proofs.imports.import_stmt.Reads as import-stmt
-use Rattle.ruled_out.proofs.Small.{lent, room, blank, limits, state, span, row, apart, unlike, ended, left, word, answer, itself}
+use Rattle.ruled_out.proofs.Small.{lent, lent_mut, room, blank, blank_mut, limits, state, span, row, apart, unlike, ended, left, word, answer, itself}
 
 -- attempts and recovery
 
@@ -54,11 +54,11 @@ undone-refusal-forgotten κs x p = apart ended (p (world [] [] [] [])) refl
 abbrev recovery : ℕ → ℕ → State
 recovery nodes errors = record { at = 2; prev = 5; reads = 2; nodes = nodes; errors = errors; wanted = 0; live = 1 }
 
-pub recovered-error-not-logged : (κs : _) (x : _) → recovered.Post κs (blank, (lent (replicate 6 0), (blank, (blank, (limits, (begin, (kind.CloseBrace, (builds.Failed (erred further lost), tt)))))))) (builds.Node (recovery 0 0) 0) x → ⊥
+pub recovered-error-not-logged : (κs : _) (x : _) → recovered.Post κs (blank, (lent_mut (replicate 6 0), (blank_mut, (blank_mut, (limits, (begin, (kind.CloseBrace, (builds.Failed (erred further lost), tt)))))))) (builds.Node (recovery 0 0) 0) x → ⊥
 unfolding recovering log skipped skip skip_turn iterate turns choose check want kind_at count
 recovered-error-not-logged κs x p = apart (λ o. (left o).errors) (p [] []) refl
 
-pub recovered-records-kept : (κs : _) (x : _) → recovered.Post κs (blank, (lent (replicate 6 0), (blank, (blank, (limits, (begin, (kind.CloseBrace, (builds.Failed (erred further lost), tt)))))))) (builds.Node (recovery 1 1) 0) x → ⊥
+pub recovered-records-kept : (κs : _) (x : _) → recovered.Post κs (blank, (lent_mut (replicate 6 0), (blank_mut, (blank_mut, (limits, (begin, (kind.CloseBrace, (builds.Failed (erred further lost), tt)))))))) (builds.Node (recovery 1 1) 0) x → ⊥
 unfolding recovering log skipped skip skip_turn iterate turns choose check want kind_at count
 recovered-records-kept κs x p = apart (λ o. (left o).nodes) (p [] []) refl
 
@@ -75,38 +75,38 @@ counted (stop k) = k.count
 abbrev shut : List ℕ
 shut = kind.CloseBrace ∷ 0 ∷ 1 ∷ []
 
-pub after-stmt-goes-on-at-the-end : (κs : _) (x : _) → after-stmt.Post κs (lent shut, (room, (blank, (blank, (blank, (limits, (begin, (kind.CloseBrace, (row 0 0 0, (1, tt)))))))))) (turned.More (state 1 1 1 0 0) (row 1 1 1)) x → ⊥
+pub after-stmt-goes-on-at-the-end : (κs : _) (x : _) → after-stmt.Post κs (lent shut, (room, (blank_mut, (blank_mut, (blank_mut, (limits, (begin, (kind.CloseBrace, (row 0 0 0, (1, tt)))))))))) (turned.More (state 1 1 1 0 0) (row 1 1 1)) x → ⊥
 unfolding after_stmt add_some add eat check bump kind_at count
 after-stmt-goes-on-at-the-end κs x p = apart (answer goes_on) (p []) refl
 
-pub after-stmt-last-one-left-out : (κs : _) (x : _) → after-stmt.Post κs (lent shut, (room, (blank, (blank, (blank, (limits, (begin, (kind.CloseBrace, (row 0 0 0, (1, tt)))))))))) (turned.Stop (state 1 1 1 0 0) (row 0 0 0)) x → ⊥
+pub after-stmt-last-one-left-out : (κs : _) (x : _) → after-stmt.Post κs (lent shut, (room, (blank_mut, (blank_mut, (blank_mut, (limits, (begin, (kind.CloseBrace, (row 0 0 0, (1, tt)))))))))) (turned.Stop (state 1 1 1 0 0) (row 0 0 0)) x → ⊥
 unfolding after_stmt add_some add eat check bump kind_at count
 after-stmt-last-one-left-out κs x p = apart (answer counted) (p []) refl
 
 -- a line's end behind it
-pub after-stmt-reads-one-alone : (κs : _) (x : _) → after-stmt.Post κs (lent (kind.Eol ∷ 0 ∷ 1 ∷ []), (room, (blank, (blank, (blank, (limits, (begin, (kind.CloseBrace, (row 0 0 0, (1, tt)))))))))) (turned.Stop (state 1 1 1 0 0) (row 1 1 1)) x → ⊥
+pub after-stmt-reads-one-alone : (κs : _) (x : _) → after-stmt.Post κs (lent (kind.Eol ∷ 0 ∷ 1 ∷ []), (room, (blank_mut, (blank_mut, (blank_mut, (limits, (begin, (kind.CloseBrace, (row 0 0 0, (1, tt)))))))))) (turned.Stop (state 1 1 1 0 0) (row 1 1 1)) x → ⊥
 unfolding after_stmt line_end recover add_some add expect eat check want bump eat_eol eat_trivia eol_turn iterate turns past_trivia past_from kind_at count
 after-stmt-reads-one-alone κs x p = apart (answer goes_on) (p []) refl
 
 -- effects and imports
 
 -- `effect ( )`
-pub effect-stmt-without-a-name : (κs : _) (x : _) → effect-stmt.Post κs (blank, (lent (kind.Effect ∷ 0 ∷ 6 ∷ kind.OpenParen ∷ 6 ∷ 7 ∷ kind.CloseParen ∷ 7 ∷ 8 ∷ []), (room, (blank, (limits, (begin, (1, (0, (ranged.Nowhere, tt))))))))) (builds.Node (state 3 8 3 2 1) 2) x → ⊥
+pub effect-stmt-without-a-name : (κs : _) (x : _) → effect-stmt.Post κs (blank, (lent (kind.Effect ∷ 0 ∷ 6 ∷ kind.OpenParen ∷ 6 ∷ 7 ∷ kind.CloseParen ∷ 7 ∷ 8 ∷ []), (room, (blank_mut, (limits, (begin, (1, (0, (ranged.Nowhere, tt))))))))) (builds.Node (state 3 8 3 2 1) 2) x → ⊥
 unfolding effect_stmt start ident ident_at unexpected expect eat check want bump past_trivia past_from is_trivia kind_at range_at count
 effect-stmt-without-a-name κs x p = apart ended (p [] []) refl
 
 -- `effect a ( )`: the link to the effect, and not to the statement over it
-pub effect-stmt-own-record-left-out : (κs : _) (x : _) → effect-stmt.Post κs (blank, (lent (kind.Effect ∷ 0 ∷ 6 ∷ kind.Ident ∷ 7 ∷ 8 ∷ kind.OpenParen ∷ 9 ∷ 10 ∷ kind.CloseParen ∷ 10 ∷ 11 ∷ []), (room, (blank, (limits, (begin, (1, (0, (ranged.Nowhere, tt))))))))) (builds.Node (state 4 11 4 2 1) 2) x → ⊥
+pub effect-stmt-own-record-left-out : (κs : _) (x : _) → effect-stmt.Post κs (blank, (lent (kind.Effect ∷ 0 ∷ 6 ∷ kind.Ident ∷ 7 ∷ 8 ∷ kind.OpenParen ∷ 9 ∷ 10 ∷ kind.CloseParen ∷ 10 ∷ 11 ∷ []), (room, (blank_mut, (limits, (begin, (1, (0, (ranged.Nowhere, tt))))))))) (builds.Node (state 4 11 4 2 1) 2) x → ⊥
 unfolding effect_stmt effect_record params type_items items_until_with_last item_turn type_end returns add_some close add start ident ident_at expect eat_eol eat_trivia eol_turn iterate turns eat check want bump past_trivia past_from is_trivia kind_at range_at count put append write
 effect-stmt-own-record-left-out κs x p = apart (answer itself) (p [] []) refl
 
 -- `import a` and the end of its line
 pub import-stmt-path-not-counted :
     (κs : _) (x : _) →
-    import-stmt.Post κs (lent (kind.Import ∷ 0 ∷ 6 ∷ kind.Ident ∷ 7 ∷ 8 ∷ kind.Eol ∷ 8 ∷ 9 ∷ []), (room, (blank, (limits, (begin, (0, tt)))))) (builds.Node (state 2 8 2 2 1) 2) x → get_or x.1.0.now (cell 1 FLAGS) 0 ≡ 0 → ⊥
+    import-stmt.Post κs (lent (kind.Import ∷ 0 ∷ 6 ∷ kind.Ident ∷ 7 ∷ 8 ∷ kind.Eol ∷ 8 ∷ 9 ∷ []), (room, (blank_mut, (limits, (begin, (0, tt)))))) (builds.Node (state 2 8 2 2 1) 2) x → get_or x.1.0.now (cell 1 FLAGS) 0 ≡ 0 → ⊥
 unfolding import_stmt path_turn import_end import_simple close add ident ident_at expect iterate turns choose eat check want bump past_trivia past_from is_trivia kind_at range_at count put append write
 import-stmt-path-not-counted κs x p h = unlike (word (cell 1 FLAGS)) (p [] [] []) h refl
 
-pub import-stmt-without-the-end-of-its-line : (κs : _) (x : _) → import-stmt.Post κs (lent (kind.Import ∷ 0 ∷ 6 ∷ kind.Ident ∷ 7 ∷ 8 ∷ []), (room, (blank, (limits, (begin, (0, tt)))))) (builds.Node (state 2 8 2 2 3) 2) x → ⊥
+pub import-stmt-without-the-end-of-its-line : (κs : _) (x : _) → import-stmt.Post κs (lent (kind.Import ∷ 0 ∷ 6 ∷ kind.Ident ∷ 7 ∷ 8 ∷ []), (room, (blank_mut, (limits, (begin, (0, tt)))))) (builds.Node (state 2 8 2 2 3) 2) x → ⊥
 unfolding import_stmt path_turn import_end unexpected add ident ident_at expect iterate turns choose eat check want bump past_trivia past_from is_trivia kind_at range_at count append
 import-stmt-without-the-end-of-its-line κs x p = apart ended (p [] [] []) refl

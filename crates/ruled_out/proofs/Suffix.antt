@@ -1,7 +1,7 @@
 -- Two wrong answers to each function of exprs that only its own modules call, those of suffix. No other crate can name their contracts, so that the
 -- equations `IsSuffix` and `NoSuffix` are copied: they are the text of the `ensures` clauses in the source. Assumes nothing.
 use mathlib.Core.Path.{◌≡◌, refl}
-use mathlib.Core.List.{List, [], ◌∷◌}
+use mathlib.Core.List.{List, []}
 use mathlib.Core.Bool.{Bool, true, false}
 use Prim.Native.Nat.{ℕ}
 use Rattle.kinds.specs.Number as kind

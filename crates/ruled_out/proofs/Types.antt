@@ -5,7 +5,7 @@ use mathlib.Core.List.{List, [], ◌∷◌}
 use mathlib.Core.Bool.{false}
 use Prim.Native.Nat.{ℕ, ◌^◌}
 use lib.ListN.{get_or}
-use denote.Ref.{Bor}
+use denote.Ref.{Bor, MutBor}
 use Rattle.kinds.specs.Number as kind
 use Rattle.kinds.specs.Kinds.{is_trivia}
 use Rattle.cursor.specs.declared.State.{State}
@@ -30,11 +30,11 @@ use Rattle.types.proofs.types.type_items.Reads as type-items
 use Rattle.types.proofs.types.type_atom.Reads as type-atom
 use Rattle.types.proofs.types.params.Reads as read-params
 use Rattle.types.proofs.types.closure_params.Reads as closure-params
-use Rattle.ruled_out.proofs.Small.{lent, room, blank, limits, state, row, apart, unlike, ended, left, word, answer, itself}
+use Rattle.ruled_out.proofs.Small.{lent, room, blank, blank_mut, limits, state, row, apart, unlike, ended, left, word, answer, itself}
 
 -- what is lent and handed to each of them at the start of a sheet: the tokens, so many levels, and the rest
-abbrev begun : {A : Type 0} → List ℕ → ℕ → A → Bor (List ℕ) × (Bor (List ℕ) × (Bor (List ℕ) × (Bor (List ℕ) × (Limits × (State × (ℕ × A))))))
-begun tokens depth rest = (blank, (lent tokens, (room, (blank, (limits, (begin, (depth, rest)))))))
+abbrev begun : {A : Type 0} → List ℕ → ℕ → A → Bor (List ℕ) × (Bor (List ℕ) × (MutBor (List ℕ) × (MutBor (List ℕ) × (Limits × (State × (ℕ × A))))))
+begun tokens depth rest = (blank, (lent tokens, (room, (blank_mut, (limits, (begin, (depth, rest)))))))
 
 -- `a`; `a )`; `( )`; `| |`
 abbrev name : List ℕ

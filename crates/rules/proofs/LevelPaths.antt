@@ -13,7 +13,6 @@ use Rattle.cursor.specs.Tokens.{start_of, eat_eol}
 use Rattle.cursor.specs.Checks.{eat}
 use Rattle.cursor.specs.Records.{append, no_kids, flagged}
 use Rattle.cursor.specs.Attempts.{recover}
-use Rattle.types.specs.Items.{start}
 use Rattle.types.proofs.TypePaths.{starts}
 use Rattle.parts.specs.declared.values.Expr.{Expr}
 use Rattle.rules.specs.Inner.{Inner}

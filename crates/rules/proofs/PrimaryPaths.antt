@@ -8,7 +8,6 @@ use Rattle.cursor.specs.declared.State.{State}
 use Rattle.cursor.specs.declared.Ranged.{Ranged}
 use Rattle.cursor.specs.Node as node
 use Rattle.cursor.specs.Rule.{World, Stop, done, failed}
-use Rattle.cursor.specs.Tokens.{bump}
 use Rattle.cursor.specs.Checks.{eat, expect, eat_range, pick}
 use Rattle.types.specs.declared.items.Items.{Items}
 use Rattle.types.specs.Lits.{ident}

@@ -4,7 +4,7 @@ use Rattle.kinds.specs.Number as kind
 use Rattle.cursor.specs.declared.Kids.{Kids}
 use Rattle.cursor.specs.Node as node
 use Rattle.cursor.specs.Sheet.{Sheet, sheet}
-use Rattle.cursor.specs.Rule.{Rule, ◌>>=◌, ◌>>◌, refuse}
+use Rattle.cursor.specs.Rule.{Rule, ◌>>=◌, refuse}
 use Rattle.cursor.specs.Records.{append, flagged}
 use Rattle.types.specs.Items.{start}
 use Rattle.types.specs.Types.{atoms}

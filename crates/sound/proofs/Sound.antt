@@ -61,6 +61,10 @@ pub data Gave {A : Type 0} : A → Spot → Spot → A → Type 0 where
 pub answer : {A : Type 0} {a b : A} {x y : Spot} → Gave a x y b → a ≡ b
 answer gave = refl
 
+-- what holds of where nothing happened, and of the answer, holds of where and what a rule has come to
+pub going : {A : Type 0} {a b : A} {x y : Spot} (P : Spot → A → Type 0) → Gave a x y b → P x a → P y b
+going P gave z = z
+
 -- a turn does not both go on and stop
 pub not-both : {A : Type 0} {a b : A} → more a ≡ stop b → ⊥
 not-both q = true≢false (ap goes q)

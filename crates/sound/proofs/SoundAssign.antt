@@ -38,7 +38,7 @@ use Rattle.grammar.specs.Builders.{blank, only, more as longer, made, couple, ro
 use Rattle.grammar.specs.Shape.{shape}
 use Rattle.sound.proofs.Sound.{Spot, at, Claim, Seq, ◌▸◌, Gave, gave, If, Nothing, Star, spot, Sound, gives, maps, reads, ifs, binds, loops}
 use Rattle.sound.proofs.SoundSteps.{Bumped, bumped, Took, took, Saw, yes-saw, not-saw, Way, this-one, later-one, Added, added-to, add-sound, bump-sound, check_sound, expect-sound, unexpected-sound, way, otherwise, chooses}
-use Rattle.sound.proofs.SoundValues.{Value, value, wrapped, joined, relabel, labelled, Closed, closed, Paired, paired, close-sound, pair-sound}
+use Rattle.sound.proofs.SoundValues.{Value, value, wrapped, joined, relabel, labelled, Closed, Paired, paired, close-sound, pair-sound, closing}
 use Rattle.sound.proofs.SoundItems.{sofar, as-shape, Rowed, listed, word_flags}
 use Rattle.sound.proofs.SoundNames.{Rowing}
 use Rattle.sound.proofs.SoundTypes.{types-sound}
@@ -106,7 +106,7 @@ module _ (e : Sheet) where
     right-sound from k op link = maps e (λ u v a c. go c) (binds e (expr-sound e d prec true) (λ val. binds e (add-sound e no_kids link) (λ one. binds e (add-sound e one val) (λ two. close-sound e k from op 0 0 two.first))))
       where
         go : {u v : Spot} {a : ℕ} → Seq (Value e.text (Whole true)) (λ val. Seq (Added no_kids link) (λ one. Seq (Added one val) (λ two. Closed k from op 0 0 two.first))) u v a → RightOf e.text k from op link u v a
-        go (value {a = b} d s f ▸ added-to ▸ added-to ▸ closed o) = right_of d s (λ lo ts es st. wrapped _ (joined (added no_kids link) b (f _ st)) o)
+        go (value {a = b} d s f ▸ added-to ▸ added-to ▸ c) = closing (RightOf e.text k from op link _) c (λ o. right_of d s (λ lo ts es st. wrapped _ (joined (added no_kids link) b (f _ st)) o))
 
     set-sound : (from sign : ℕ) (x : Expr) → Sound e (SetOf from sign x) (set (levels e d) from sign x)
     unfolding set set_to
@@ -169,10 +169,10 @@ module _ (e : Sheet) where
           → ((es : List Entry) → Stack zs o es → Stack us k (whole o c again j js ∷ es)) → Rowing e.text (Rights (suc i)) (added (uncounted kids) c) (at z k (linked us kids.last c)) v all
           → Closed node.AssignMulti (start_of p) 0 0 (flagged kids.count all.count false false) all.first v w d → Value e.text Stmt (at p n xs) w d
       unfolding shape join
-      matched {c = c} {j = j} {js = js} t x y k (listed w u) (closed {p = z} room) = value (multi b h g t x w) (λ i. several_over (start_of p) z (shape g 0 (longer blank (s i))) (shape w 0 (longer blank (y i)))) (λ es st.
+      matched {c = c} {j = j} {js = js} t x y k (listed {q = z} w u) o = closing (Value e.text Stmt _) o (λ room. value (multi b h g t x w) (λ i. several_over (start_of p) z (shape g 0 (longer blank (s i))) (shape w 0 (longer blank (y i)))) (λ es st.
           let left = lefts _ 1 (tree l ks) es refl (as_row (push es st)) in
           let both = as-shape (rights-behind w (shape g 0 (sofar (tree l ks) 1)).row (tree j js) 1) (u _ 1 _ es refl (joined (uncounted kids) c (k _ left.stack))) in
-          relabel (ap (λ y. labelled node.AssignMulti (start_of p) 0 0 y z) (two-flags _ _ false false left.count both.count)) (wrapped _ both.stack room))
+          relabel (ap (λ y. labelled node.AssignMulti (start_of p) 0 0 y z) (two-flags _ _ false false left.count both.count)) (wrapped _ both.stack room)))
 
       -- the counts, which are kept in words, are what the grammar counts
       enough : {j : ℕ} → 3 * length p.rest < 2 ^ 32 → kids.count ≡ word32 (1 + suc i) → (1 ≤ kids.count → kids.count < 2 ^ 32 → 1 + j ≡ kids.count) → j ≡ suc i
@@ -191,10 +191,10 @@ module _ (e : Sheet) where
 
       behind-lefts : {v : Spot} {c : ℕ} → 3 * length p.rest < 2 ^ 32 → kids.count ≡ word32 (1 + suc i) → BehindLefts (start_of p) kids (at r o zs) v c → Value e.text Stmt (at p n xs) v c
       unfolding shape join
-      behind-lefts few count (took t ▸ value {a = c} x y k ▸ not-saw z ▸ added-to ▸ closed {p = w} room) =
+      behind-lefts few count (took t ▸ value {a = c} x y k ▸ not-saw z ▸ added-to {p = w} ▸ u) = closing (Value e.text Stmt _) u (λ room.
           value (unpack b h g t x z) (λ i. row_before node.AssignUnpack (start_of p) w (shape g 0 (longer blank (s i))) (y i).row) (λ es st.
           let left = lefts _ 1 (tree l ks) es refl (as_row (push es st)) in
-          relabel (ap (λ y. labelled node.AssignUnpack (start_of p) 0 0 y w) (word_flags _ false false left.count)) (wrapped _ (joined kids c (k _ left.stack)) room))
+          relabel (ap (λ y. labelled node.AssignUnpack (start_of p) 0 0 y w) (word_flags _ false false left.count)) (wrapped _ (joined kids c (k _ left.stack)) room)))
       behind-lefts few count (took t ▸ value x y k ▸ yes-saw z ▸ added-to ▸ turns ▸ room) = with-rights few count t x y k (rights-read e kids.count turns) room
 
     several : {v w : Spot} {c : ℕ} {kids : Kids} → 3 * length p.rest < 2 ^ 32 → Assignable f → Here kind.Comma q → Lefted e.text (row_with a) (at q m ys) v kids → BehindLefts (start_of p) kids v w c → Value e.text Stmt (at p n xs) w c

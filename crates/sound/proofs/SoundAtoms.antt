@@ -26,7 +26,7 @@ use Rattle.grammar.specs.Builders.{over}
 use Rattle.grammar.specs.Shape.{shape}
 use Rattle.sound.proofs.Sound.{Spot, at, Claim, Seq, ◌▸◌, Gave, gave, Sound, gives, maps, binds}
 use Rattle.sound.proofs.SoundSteps.{Bumped, bumped, Took, took, Way, this-one, later-one, bump-sound, expect-sound, way, otherwise, chooses}
-use Rattle.sound.proofs.SoundValues.{Value, value, wrapped, relabel, Started, started, labelled, Closed, closed, start-sound, close-sound, ident-sound, lit-sound}
+use Rattle.sound.proofs.SoundValues.{Value, value, wrapped, relabel, Started, started, labelled, Closed, closed, start-sound, close-sound, ident-sound, lit-sound, closing}
 use Rattle.sound.proofs.SoundItems.{Listed, listed, word_flags}
 use Rattle.sound.proofs.SoundNames.{Rowing}
 use Rattle.sound.proofs.SoundExprs.{fits-name, fits-other, Expressed, expressed}
@@ -96,16 +96,18 @@ module _ (e : Sheet) (d : ℕ) (exprs : (lambda : Bool) → Sound e (Value e.tex
 
   paren-read : {p : Place} {n a : ℕ} {xs : List ℕ} {v : Spot} → Here kind.OpenParen p → ParenExpr (start_of p) (at p n xs) v a → Value e.text (Atom Other) (at p n xs) v a
   unfolding shape
-  paren-read {p} h (bumped t ▸ value b s f ▸ took u ▸ closed {p = q} o) = value (paren-expr (record { here = h.stands; next = t }) b u) (λ j. over node.Paren (start_of p) q (s j)) (λ es st. wrapped _ (as_row (f es st)) o)
+  paren-read {p} h (bumped t ▸ value b s f ▸ took {q = q} u ▸ c) = closing (Value e.text (Atom Other) _) c (λ o.
+      value (paren-expr (record { here = h.stands; next = t }) b u) (λ j. over node.Paren (start_of p) q (s j)) (λ es st. wrapped _ (as_row (f es st)) o))
 
   list_read : {p : Place} {n a : ℕ} {xs : List ℕ} {v : Spot} → Here kind.OpenBracket p → ListExpr (start_of p) (at p n xs) v a → Value e.text (Atom Other) (at p n xs) v a
   unfolding shape
-  list_read {p} h (bumped t ▸ listed b f ▸ closed {p = q} o) =
-      value (list (record { here = h.stands; next = t }) b) refl (λ es st. let r = f _ 0 none es refl (begin st) in relabel (ap (λ z. labelled node.List (start_of p) 0 0 z q) (word_flags _ false false r.count)) (wrapped _ r.stack o))
+  list_read {p} h (bumped t ▸ listed {q = q} b f ▸ c) = closing (Value e.text (Atom Other) _) c (λ o.
+      value (list (record { here = h.stands; next = t }) b) refl (λ es st. let r = f _ 0 none es refl (begin st) in relabel (ap (λ z. labelled node.List (start_of p) 0 0 z q) (word_flags _ false false r.count)) (wrapped _ r.stack o)))
 
   return_read : {p : Place} {n a : ℕ} {xs : List ℕ} {v : Spot} → Here kind.Return p → ReturnExpr (start_of p) (at p n xs) v a → Value e.text (Atom Other) (at p n xs) v a
   unfolding shape
-  return_read {p} h (bumped t ▸ value b s f ▸ closed {p = q} o) = value (return-expr (record { here = h.stands; next = t }) b) (λ j. over node.Return (start_of p) q (s j)) (λ es st. wrapped _ (as_row (f es st)) o)
+  return_read {p} h (bumped t ▸ value {q = q} b s f ▸ c) = closing (Value e.text (Atom Other) _) c (λ o.
+      value (return-expr (record { here = h.stands; next = t }) b) (λ j. over node.Return (start_of p) q (s j)) (λ es st. wrapped _ (as_row (f es st)) o))
 
   -- the forms, by the kinds that they begin with: an atom that is a plain name, and one that is not
   abbrev Named : Claim ℕ → Claim Expr

@@ -30,7 +30,7 @@ use Rattle.grammar.specs.Builders.{blank, only, more as longer, covered}
 use Rattle.grammar.specs.Shape.{shape}
 use Rattle.sound.proofs.Sound.{Spot, at, Claim, Seq, ◌▸◌, Gave, gave, answer, not-both, If, Nothing, Star, halt, turn, Sound, gives, maps, ifs, binds, recovers, log-sound, loops}
 use Rattle.sound.proofs.SoundSteps.{Took, took, Ate, yes-ate, not-ate, Saw, yes-saw, not-saw, Lined, lined, bump-sound, check_sound, eat-sound, expect-sound, way, otherwise, chooses, eat-eol-sound}
-use Rattle.sound.proofs.SoundValues.{Value, value, wrapped, joined, unlinked, relabel, Started, started, labelled, Closed, closed, SomeAdded, none-added, some-added, start-sound, close-sound, add-some-sound}
+use Rattle.sound.proofs.SoundValues.{Value, value, wrapped, joined, unlinked, relabel, Started, started, labelled, Closed, closed, SomeAdded, none-added, some-added, start-sound, close-sound, add-some-sound, closing}
 use Rattle.sound.proofs.SoundItems.{sofar, as-shape, Listed, listed, word_more, word_flags}
 use Rattle.sound.proofs.SoundNames.{Rowing}
 use Rattle.sound.proofs.SoundEffects.{Becomes, becomes}
@@ -109,8 +109,8 @@ module _ (e : Sheet) (d : ℕ) (bodies : (end : ℕ) → Sound e (Rowing e.text 
 
   block-record : {p q : Place} {n a : ℕ} {xs : List ℕ} {v w : Spot} {k : Kids} → Tok kind.OpenBrace p q → Rowing e.text (Exprs kind.CloseBrace) no_kids (at q n xs) v k → BlockOf (start_of q) k v w a → Value e.text Block (at p n xs) w a
   unfolding shape
-  block-record {q = q} t (listed b f) (closed {p = r} o) =
-      value (block_of t b) refl (λ es st. let g = f _ 0 none es refl (begin st) in relabel (ap (λ z. labelled node.Block (start_of q) 0 0 z r) (word_flags _ false false g.count)) (wrapped _ g.stack o))
+  block-record {q = q} t (listed {q = r} b f) c = closing (Value e.text Block _) c (λ o.
+      value (block_of t b) refl (λ es st. let g = f _ 0 none es refl (begin st) in relabel (ap (λ z. labelled node.Block (start_of q) 0 0 z r) (word_flags _ false false g.count)) (wrapped _ g.stack o)))
 
   pub block-sound : Sound e (Value e.text Block) (block (levels e d) 0)
   unfolding block block_record wrapped-rule
@@ -126,5 +126,5 @@ module _ (e : Sheet) (d : ℕ) (bodies : (end : ℕ) → Sound e (Rowing e.text 
     where
       go : {u v : Spot} {a : ℕ} → Seq (Took kind.OpenBrace) (λ _. Seq Started (λ from. Seq (Rowing e.text (Exprs kind.CloseBrace) no_kids) (λ k. Seq (BlockOf from k) (λ link. Closed (suc kind-over) from 0 0 0 link)))) u v a
           → Becomes e.text Block 0 (λ q f. only (covered (suc kind-over) f.row)) u v a
-      go (took t ▸ started {p = q} ▸ listed b f ▸ closed {p = r} o ▸ closed m) =
-          becomes (block_of t b) refl (λ es st. let g = f _ 0 none es refl (begin st) in wrapped _ (as_row (relabel (ap (λ z. labelled node.Block (start_of q) 0 0 z r) (word_flags _ false false g.count)) (wrapped _ g.stack o))) m)
+      go (took t ▸ started {p = q} ▸ listed b f ▸ closed {p = r} o ▸ c) = closing (Becomes e.text Block 0 (λ q f. only (covered (suc kind-over) f.row)) _) c (λ m.
+          becomes (block_of t b) refl (λ es st. let g = f _ 0 none es refl (begin st) in wrapped _ (as_row (relabel (ap (λ z. labelled node.Block (start_of q) 0 0 z r) (word_flags _ false false g.count)) (wrapped _ g.stack o))) m))

@@ -27,8 +27,8 @@ use Rattle.grammar.specs.Derives.{Derives, if-expr, loop-expr, while-expr, for-e
 use Rattle.grammar.specs.Builders.{Shape, blank, only, over, couple, row_before, if_over, covered}
 use Rattle.grammar.specs.Shape.{shape}
 use Rattle.sound.proofs.Sound.{Spot, at, Claim, Seq, ◌▸◌, If, Sound, maps, ifs, binds}
-use Rattle.sound.proofs.SoundSteps.{Bumped, bumped, Took, took, Ate, yes-ate, not-ate, Saw, yes-saw, not-saw, Added, added-to, add-sound, bump-sound, check_sound, eat-sound, expect-sound}
-use Rattle.sound.proofs.SoundValues.{Value, value, Optional, some-value, no_value, wrapped, joined, unlinked, relabel, retree, labelled, Closed, closed, SomeAdded, none-added, some-added, close-sound, add-some-sound}
+use Rattle.sound.proofs.SoundSteps.{Bumped, bumped, Took, took, Ate, yes-ate, not-ate, Saw, yes-saw, not-saw, Added, added-to, add-sound, bump-sound, check_sound, eat-sound, expect-sound, adding}
+use Rattle.sound.proofs.SoundValues.{Value, value, Optional, some-value, no_value, wrapped, joined, unlinked, relabel, retree, labelled, Closed, SomeAdded, none-added, some-added, close-sound, add-some-sound, closing}
 use Rattle.sound.proofs.SoundItems.{listed, word_flags}
 use Rattle.sound.proofs.SoundNames.{Rowing, names-sound}
 use Rattle.sound.proofs.SoundEffects.{Becomes, becomes}
@@ -47,7 +47,8 @@ module _ (e : Sheet) (d : ℕ) (exprs : (lambda : Bool) → Sound e (Value e.tex
   and-block-sound kids = maps e (λ u v k c. go c) (binds e (exprs false) (λ link. binds e (block-sound e d bodies) (λ body. binds e (add-sound e kids link) (λ one. add-sound e one body))))
     where
       go : {u v : Spot} {k : Kids} → Seq (Value e.text (Whole false)) (λ link. Seq (Value e.text Block) (λ body. Seq (Added kids link) (λ one. Added one body))) u v k → Guarded e.text kids u v k
-      go (value {a = a} b s f ▸ value {a = c} k y h ▸ added-to ▸ added-to) = guarded b k s y (λ lo ts es st. retree (join-assoc ts _ _) (joined (added kids a) c (joined-under kids a (h _ (f _ st)))))
+      go (value {a = a} b s f ▸ value {a = c} k y h ▸ added-to ▸ u) = adding (Guarded e.text kids _) u
+          (guarded b k s y (λ lo ts es st. retree (join-assoc ts _ _) (joined (added kids a) c (joined-under kids a (h _ (f _ st))))))
 
   -- behind `else`
   abbrev Otherwise : Claim ℕ
@@ -79,11 +80,13 @@ module _ (e : Sheet) (d : ℕ) (exprs : (lambda : Bool) → Sound e (Value e.tex
 
   if-over : {p q : Place} {n a c : ℕ} {xs : List ℕ} {u v w : Spot} {kids : Kids} → Tok kind.If p q → Guarded e.text no_kids (at q n xs) u kids → Optional e.text Alternate u v a → IfOf (start_of p) kids a v w c → Value e.text (Atom Other) (at p n xs) w c
   unfolding join
-  if-over {p} {kids = kids} t (guarded b c s y f) (some-value (value {a = a} k z g)) (some-added ▸ closed {p = q} o) = value (if-expr t b c k) (if-shape t b c k s y z) (λ es st.
+  if-over {p} {kids = kids} t (guarded b c s y f) (some-value (value {q = q} {a = a} k z g)) (some-added ▸ u) = closing (Value e.text (Atom Other) _) u (λ o. value (if-expr t b c k) (if-shape t b c k s y z) (λ es st.
       let x = g _ (f _ none es (begin st)) in
-      relabel (ap (λ r. labelled node.If (start_of p) 0 0 (flagged 0 0 r false) q) (lt-ltb 0 a (link-some x))) (wrapped _ (joined kids a x) o))
-  if-over t (guarded b c s y f) (some-value (value k z g)) (none-added ▸ closed o) = value {last = 0} (if-expr t b c k) (if-shape t b c k s y z) (λ es st. absurd (unlinked (g _ (f _ none es (begin st)))))
-  if-over t (guarded b c s y f) (no_value k z) (none-added ▸ closed o) = value (if-expr t b c k) (if-shape t b c k s y z) (λ es st. wrapped _ (f _ none es (begin st)) o)
+      relabel (ap (λ r. labelled node.If (start_of p) 0 0 (flagged 0 0 r false) q) (lt-ltb 0 a (link-some x))) (wrapped _ (joined kids a x) o)))
+  if-over t (guarded b c s y f) (some-value (value k z g)) (none-added ▸ u) = closing (Value e.text (Atom Other) _) u (λ o.
+      value {last = 0} (if-expr t b c k) (if-shape t b c k s y z) (λ es st. absurd (unlinked (g _ (f _ none es (begin st))))))
+  if-over t (guarded b c s y f) (no_value k z) (none-added ▸ u) = closing (Value e.text (Atom Other) _) u (λ o.
+      value (if-expr t b c k) (if-shape t b c k s y z) (λ es st. wrapped _ (f _ none es (begin st)) o))
 
   pub if-read : {p : Place} {n a : ℕ} {xs : List ℕ} {v : Spot} → Here kind.If p → Branching (start_of p) (at p n xs) v a → Value e.text (Atom Other) (at p n xs) v a
   unfolding shape
@@ -114,14 +117,16 @@ module _ (e : Sheet) (d : ℕ) (exprs : (lambda : Bool) → Sound e (Value e.tex
 
   pub loop-read : {p : Place} {n a : ℕ} {xs : List ℕ} {v : Spot} → Here kind.Loop p → LoopExpr (start_of p) (at p n xs) v a → Value e.text (Atom Other) (at p n xs) v a
   unfolding shape
-  loop-read {p} h (bumped t ▸ value b s f ▸ closed {p = q} o) = value (loop-expr (record { here = h.stands; next = t }) b) (λ j. over node.Loop (start_of p) q (s j)) (λ es st. wrapped _ (as_row (f es st)) o)
+  loop-read {p} h (bumped t ▸ value {q = q} b s f ▸ c) = closing (Value e.text (Atom Other) _) c (λ o.
+      value (loop-expr (record { here = h.stands; next = t }) b) (λ j. over node.Loop (start_of p) q (s j)) (λ es st. wrapped _ (as_row (f es st)) o))
 
   pub while-read : {p : Place} {n a : ℕ} {xs : List ℕ} {v : Spot} → Here kind.While p → WhileExpr (start_of p) (at p n xs) v a → Value e.text (Atom Other) (at p n xs) v a
   unfolding shape join
-  while-read {p} h (bumped t ▸ guarded b c s y f ▸ closed {p = q} o) = value (while-expr (record { here = h.stands; next = t }) b c) (λ j. couple node.While (start_of p) q (s j) (y j)) (λ es st. wrapped _ (f _ none es (begin st)) o)
+  while-read {p} h (bumped t ▸ guarded {r = q} b c s y f ▸ u) = closing (Value e.text (Atom Other) _) u (λ o.
+      value (while-expr (record { here = h.stands; next = t }) b c) (λ j. couple node.While (start_of p) q (s j) (y j)) (λ es st. wrapped _ (f _ none es (begin st)) o))
 
   pub for-read : {p : Place} {n a : ℕ} {xs : List ℕ} {v : Spot} → Here kind.For p → ForExpr (start_of p) (at p n xs) v a → Value e.text (Atom Other) (at p n xs) v a
   unfolding shape
-  for-read {p} h (bumped t ▸ listed k g ▸ took u ▸ guarded b c s y f ▸ closed {p = q} o) =
+  for-read {p} h (bumped t ▸ listed k g ▸ took u ▸ guarded {r = q} b c s y f ▸ v) = closing (Value e.text (Atom Other) _) v (λ o.
       value (for-expr (record { here = h.stands; next = t }) k u b c) (λ j. row_before node.For (start_of p) q (shape k 0 blank) (join (s j).row (y j).row))
-      (λ es st. let r = g _ 0 none es refl (begin st) in relabel (ap (λ z. labelled node.For (start_of p) 0 0 z q) (word_flags _ false false r.count)) (wrapped _ (f _ _ es r.stack) o))
+      (λ es st. let r = g _ 0 none es refl (begin st) in relabel (ap (λ z. labelled node.For (start_of p) 0 0 z q) (word_flags _ false false r.count)) (wrapped _ (f _ _ es r.stack) o)))

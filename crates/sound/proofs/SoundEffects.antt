@@ -28,7 +28,7 @@ use Rattle.grammar.specs.Builders.{Shape, blank, only, signature, effect_over}
 use Rattle.grammar.specs.Shape.{shape}
 use Rattle.sound.proofs.Sound.{Spot, at, Claim, Seq, ◌▸◌, Sound, maps, binds}
 use Rattle.sound.proofs.SoundSteps.{Took, took, Added, added-to, add-sound, expect-sound}
-use Rattle.sound.proofs.SoundValues.{Value, value, Optional, wrapped, joined, relabel, retree, Started, started, labelled, Closed, closed, SomeAdded, start-sound, close-sound, add-some-sound, ident-sound}
+use Rattle.sound.proofs.SoundValues.{Value, value, Optional, wrapped, joined, relabel, retree, Started, started, labelled, Closed, closed, SomeAdded, start-sound, close-sound, add-some-sound, ident-sound, closing}
 use Rattle.sound.proofs.SoundItems.{Listed}
 use Rattle.sound.proofs.SoundSignature.{Signed, signed_by, signed}
 use Rattle.sound.proofs.SoundTypes.{atoms-sound, params-sound, returns-sound}
@@ -55,12 +55,12 @@ module _ (e : Sheet) (from : ℕ) (glo : Ranged) where
           → Seq (Closed node.Effect (start_of p) 0 0 (flagged i.kids.count 0 (is_ended i.ended) (ltb 0 link)) kids.first) (λ effect.
           Seq (Added no_kids a) (λ one. Seq (Added one effect) (λ two. Closed node.ExprEffect from (range_of glo).start (range_of glo).end (flagged 0 0 (is_ended glo) false) two.first))) v w c
           → Becomes e.text Effect 0 (λ q f. effect_over from q glo f) (at p n xs) w c
-      build {p} {a = a} t b s f (signed_by o k g) (closed {p = z} {n = n} r ▸ added-to ▸ added-to ▸ closed h) =
+      build {p} {a = a} t b s f (signed_by o k g) (closed {p = z} {n = n} r ▸ added-to ▸ added-to ▸ u) = closing (Becomes e.text Effect 0 (λ q f. effect_over from q glo f) _) u (λ h.
           becomes (effect_of t b o k) (ap (λ j. effect_over from z glo (only (join j.row (signature node.Effect (start_of p) z (shape o 0 blank) (shape k 0 blank) none).row))) s)
           (λ es st.
           let i = g _ (as_row (f es st)) in
           let x = relabel (ap (λ y. labelled node.Effect (start_of p) 0 0 y z) i.flags) (wrapped _ (retree (ap (λ y. join (shape o 0 blank).row y) (sym (join-none (shape k 0 blank).row))) i.stack) r) in
-          wrapped _ (joined (added no_kids a) (n + 1) x) h)
+          wrapped _ (joined (added no_kids a) (n + 1) x) h))
 
       go : {u v : Spot} {a : ℕ} → Seq Started (λ inside. Seq (Took kind.Effect) (λ _. Seq (Value e.text Ident) (λ name. Seq (Listed e.text (Params false) no_kids) (λ i. Seq (Optional e.text Returns) (λ link. Built inside name i link))))) u v a
           → Becomes e.text Effect 0 (λ q f. effect_over from q glo f) u v a

@@ -29,7 +29,7 @@ use Rattle.grammar.specs.Derives.{Derives}
 use Rattle.grammar.specs.Builders.{blank, only, some}
 use Rattle.grammar.specs.Shape.{shape}
 use Rattle.sound.proofs.Links.{place_at, Settled, kind-place}
-use Rattle.sound.proofs.Sound.{Spot, at, Seq, ◌▸◌, Gave, gave, EndsBy, Sound, gives, reads, binds}
+use Rattle.sound.proofs.Sound.{Spot, at, Seq, ◌▸◌, Gave, EndsBy, Sound, gives, reads, binds, going}
 use Rattle.sound.proofs.SoundSteps.{Bumped, bumped, bump-sound, unexpected-sound, span-place}
 use Rattle.sound.proofs.SoundValues.{labelled, Closed, closed, close-sound}
 
@@ -104,7 +104,7 @@ module _ (e : Sheet) where
       where
         go : {p : Place} {n : ℕ} {xs : List ℕ} {y : Spot} {b : Next Expr} (begin : ℕ) → start_of p ≡ begin → checked_type e.text (kind_of p) (span_of p) ≡ checked.Type k
             → Seq Bumped (λ _. Seq (Closed node.TypeCheck from k begin 0 (link_of x)) (λ link. Gave (more (exprs.Other link)))) (at p n xs) y b → Tested from x (at p n xs) y b
-        go begin u v (bumped t ▸ closed o ▸ gave) = rw (← u) (tested v t o)
+        go begin u v (bumped t ▸ closed o ▸ g) = going (Tested from x _) g (rw (← u) (tested v t o))
     test_by s w h r checked.Unknown a q = (unexpected-sound e).ends s w h
 
     test_at : (s : State) (w : World) → Settled e.tokens s → (r : Ranged) → range_at e.tokens s.at ≡ r → EndsBy e (Tested from x) s w (type_check_at e from x (kind_at e.tokens s.at) r s w)

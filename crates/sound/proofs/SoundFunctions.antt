@@ -30,8 +30,8 @@ use Rattle.grammar.specs.Derives.{Derives, function_of, fn-expr, closure-expr, d
 use Rattle.grammar.specs.Builders.{Shape, blank, signature, over, fn_over}
 use Rattle.grammar.specs.Shape.{shape}
 use Rattle.sound.proofs.Sound.{Spot, at, Claim, Seq, ◌▸◌, Sound, maps, binds}
-use Rattle.sound.proofs.SoundSteps.{Bumped, bumped, Added, added-to, add-sound, bump-sound}
-use Rattle.sound.proofs.SoundValues.{Value, value, Optional, some-value, no_value, wrapped, joined, unlinked, relabel, retree, labelled, Closed, closed, SomeAdded, none-added, some-added, close-sound, add-some-sound}
+use Rattle.sound.proofs.SoundSteps.{Bumped, bumped, Added, added-to, add-sound, bump-sound, adding}
+use Rattle.sound.proofs.SoundValues.{Value, value, Optional, some-value, no_value, wrapped, joined, unlinked, relabel, retree, labelled, Closed, closed, SomeAdded, none-added, some-added, close-sound, add-some-sound, closing}
 use Rattle.sound.proofs.SoundItems.{Listed, listed, list-flags}
 use Rattle.sound.proofs.SoundNames.{Rowing}
 use Rattle.sound.proofs.SoundTypes.{atoms-sound, params-sound, closure-params-sound, returns-sound}
@@ -61,15 +61,21 @@ module _ (e : Sheet) (d : ℕ) (bodies : (end : ℕ) → Sound e (Rowing e.text 
     function-read : {u v w x y z t : Spot} {i : Row} {link body c : ℕ} {one two : Kids} → Listed e.text (Params closure) no_kids u v i → Optional e.text Returns v w link → Value e.text Block w x body → SomeAdded i.kids link x y one → Added one body y z two
         → FunctionOf i link two z t c → Becomes e.text (Function closure) from (λ q f. f) u t c
     unfolding join
-    function-read (listed {j = i} b f) (some-value (value {a = a} c s g)) (value {a = body} k y h) some-added added-to (closed {p = q} o) = becomes (function_of b c k) (shaped b c k s y) (λ es st.
+    function-read {u = u} {t = t} {c = d} (listed {j = i} b f) (some-value (value {a = a} c s g)) (value {q = q} {a = body} k y h) some-added x v =
+        adding (λ z two. FunctionOf i a two z t d → Becomes e.text (Function closure) from (λ q f. f) u t d) x (λ z. closing (Becomes e.text (Function closure) from (λ q f. f) _) z (λ o.
+        becomes (function_of b c k) (shaped b c k s y) (λ es st.
         let p = f _ 0 none es refl (begin st) in
         let t = g _ p.stack in
         relabel (ap (λ z. labelled (function_kind closure) from 0 0 z q) (list-flags (ltb 0 a) p ∙ ap (λ z. flagged (shape b 0 blank).count 0 (is_ended (shape b 0 blank).last) z) (lt-ltb 0 a (link-some t))))
-        (wrapped _ (retree (join-assoc (shape b 0 blank).row _ _) (joined (added i.kids a) body (joined-under i.kids a (h _ t)))) o))
-    function-read (listed b f) (some-value (value c s g)) (value k y h) none-added added-to (closed o) = becomes {last = 0} (function_of b c k) (shaped b c k s y) (λ es st. absurd (unlinked (g _ (f _ 0 none es refl (begin st)).stack)))
-    function-read (listed {j = i} b f) (no_value c s) (value {a = body} k y h) none-added added-to (closed {p = q} o) = becomes (function_of b c k) (shaped b c k s y) (λ es st.
+        (wrapped _ (retree (join-assoc (shape b 0 blank).row _ _) (joined (added i.kids a) body (joined-under i.kids a (h _ t)))) o)))) v
+    function-read {u = u} {t = t} {c = d} (listed {j = i} b f) (some-value (value c s g)) (value k y h) none-added x v =
+        adding (λ z two. FunctionOf i 0 two z t d → Becomes e.text (Function closure) from (λ q f. f) u t d) x (λ z. closing (Becomes e.text (Function closure) from (λ q f. f) _) z (λ o.
+        becomes {last = 0} (function_of b c k) (shaped b c k s y) (λ es st. absurd (unlinked (g _ (f _ 0 none es refl (begin st)).stack))))) v
+    function-read {u = u} {t = t} {c = d} (listed {j = i} b f) (no_value c s) (value {q = q} {a = body} k y h) none-added x v =
+        adding (λ z two. FunctionOf i 0 two z t d → Becomes e.text (Function closure) from (λ q f. f) u t d) x (λ z. closing (Becomes e.text (Function closure) from (λ q f. f) _) z (λ o.
+        becomes (function_of b c k) (shaped b c k s y) (λ es st.
         let p = f _ 0 none es refl (begin st) in
-        relabel (ap (λ z. labelled (function_kind closure) from 0 0 z q) (list-flags false p)) (wrapped _ (joined i.kids body (h _ p.stack)) o))
+        relabel (ap (λ z. labelled (function_kind closure) from 0 0 z q) (list-flags false p)) (wrapped _ (joined i.kids body (h _ p.stack)) o)))) v
 
     -- parse_function, and the same of a closure
     pub function-sound : Sound e (Becomes e.text (Function closure) from (λ q f. f)) (function (levels e d) from closure)
@@ -113,14 +119,14 @@ module _ (e : Sheet) (d : ℕ) (bodies : (end : ℕ) → Sound e (Rowing e.text 
 
   pub fn-read : {p : Place} {n a : ℕ} {xs : List ℕ} {v : Spot} → Here kind.Fn p → FnExpr (start_of p) (at p n xs) v a → Value e.text (Atom Other) (at p n xs) v a
   unfolding shape join
-  fn-read {p} h (bumped t ▸ becomes b s f ▸ none-added ▸ added-to ▸ closed {p = q} o) =
-      value (fn-expr (record { here = h.stands; next = t }) b) (λ j. fn_over (start_of p) q ranged.Nowhere none (s j)) (λ es st. wrapped _ (as_row (f es st)) o)
+  fn-read {p} h (bumped t ▸ becomes b s f ▸ none-added ▸ added-to {p = q} ▸ c) = closing (Value e.text (Atom Other) _) c (λ o.
+      value (fn-expr (record { here = h.stands; next = t }) b) (λ j. fn_over (start_of p) q ranged.Nowhere none (s j)) (λ es st. wrapped _ (as_row (f es st)) o))
 
   pub closure-read : {p : Place} {n a : ℕ} {xs : List ℕ} {v : Spot} → ClosureExpr (start_of p) (at p n xs) v a → Value e.text (Atom Other) (at p n xs) v a
   unfolding shape join
-  closure-read {p} (becomes b s f ▸ none-added ▸ added-to ▸ closed {p = q} o) = value (closure-expr b) (λ j. fn_over (start_of p) q ranged.Nowhere none (s j)) (λ es st. wrapped _ (as_row (f es st)) o)
+  closure-read {p} (becomes b s f ▸ none-added ▸ added-to {p = q} ▸ c) = closing (Value e.text (Atom Other) _) c (λ o. value (closure-expr b) (λ j. fn_over (start_of p) q ranged.Nowhere none (s j)) (λ es st. wrapped _ (as_row (f es st)) o))
 
   pub do-read : {p : Place} {n a : ℕ} {xs : List ℕ} {v : Spot} → Here kind.Do p → DoExpr (start_of p) (at p n xs) v a → Value e.text (Atom Other) (at p n xs) v a
   unfolding shape join
-  do-read {p} h (bumped t ▸ value b s f ▸ closed {p = r} k ▸ none-added ▸ added-to ▸ closed {p = q} o) =
-      value (do-expr (record { here = h.stands; next = t }) b) (λ j. fn_over (start_of p) q ranged.Nowhere none (over node.Do (start_of p) q (s j))) (λ es st. wrapped _ (as_row (wrapped _ (as_row (f es st)) k)) o)
+  do-read {p} h (bumped t ▸ value b s f ▸ closed {p = r} k ▸ none-added ▸ added-to {p = q} ▸ c) = closing (Value e.text (Atom Other) _) c (λ o.
+      value (do-expr (record { here = h.stands; next = t }) b) (λ j. fn_over (start_of p) q ranged.Nowhere none (over node.Do (start_of p) q (s j))) (λ es st. wrapped _ (as_row (wrapped _ (as_row (f es st)) k)) o))

@@ -29,7 +29,7 @@ use Rattle.grammar.specs.Builders.{blank, only, more as longer, made, over, impo
 use Rattle.grammar.specs.Shape.{shape}
 use Rattle.sound.proofs.Sound.{Spot, at, Claim, Seq, ◌▸◌, Gave, gave, answer, not-both, If, Nothing, Star, halt, turn, Sound, gives, maps, ifs, binds, loops}
 use Rattle.sound.proofs.SoundSteps.{Bumped, bumped, Ate, yes-ate, not-ate, Saw, yes-saw, not-saw, Way, this-one, later-one, Added, added-to, add-sound, bump-sound, check_sound, eat-sound, unexpected-sound, way, otherwise, chooses}
-use Rattle.sound.proofs.SoundValues.{Value, value, wrapped, joined, relabel, Started, started, labelled, Closed, closed, start-sound, close-sound, ident-sound}
+use Rattle.sound.proofs.SoundValues.{Value, value, wrapped, joined, relabel, Started, started, labelled, Closed, start-sound, close-sound, ident-sound, closing}
 use Rattle.sound.proofs.SoundItems.{sofar, as-shape, Listed, listed, word_more, until-sound}
 use Rattle.sound.proofs.ListShape.{behind-none, until-behind}
 use Rattle.sound.proofs.SoundEffects.{Becomes, becomes}
@@ -67,9 +67,9 @@ module _ (e : Sheet) where
       go : {u v : Spot} {a : ℕ} → Seq Started (λ from. Seq (Value e.text Ident) (λ name. Seq (Ate kind.As) (λ b. If b
           (Seq (Value e.text Ident) (λ alias. Seq (Added no_kids name) (λ one. Seq (Added one alias) (λ two. Closed node.ImportItem from 0 0 (flagged 0 0 true false) two.first))))
           (Closed node.ImportItem from 0 0 0 name)))) u v a → Value e.text ImportItem u v a
-      go (started {p = p} ▸ value d s f ▸ not-ate n ▸ closed {p = q} o) = value (item-alone d n) (λ i. over node.ImportItem (start_of p) q (s i)) (λ es st. wrapped _ (as_row (f es st)) o)
-      go (started {p = p} ▸ value {a = a} d s f ▸ yes-ate t ▸ value {a = b} c y g ▸ added-to ▸ added-to ▸ closed {p = q} o) =
-          value (item-as d t c) (λ i. made node.ImportItem (start_of p) q 0 0 (flagged 0 0 true false) (join (s i).row (y i).row)) (λ es st. wrapped _ (joined (added no_kids a) b (g _ (as_row (f es st)))) o)
+      go (started {p = p} ▸ value d s f ▸ not-ate {p = q} n ▸ u) = closing (Value e.text ImportItem _) u (λ o. value (item-alone d n) (λ i. over node.ImportItem (start_of p) q (s i)) (λ es st. wrapped _ (as_row (f es st)) o))
+      go (started {p = p} ▸ value {a = a} d s f ▸ yes-ate t ▸ value {a = b} c y g ▸ added-to ▸ added-to {p = q} ▸ u) = closing (Value e.text ImportItem _) u (λ o.
+          value (item-as d t c) (λ i. made node.ImportItem (start_of p) q 0 0 (flagged 0 0 true false) (join (s i).row (y i).row)) (λ es st. wrapped _ (joined (added no_kids a) b (g _ (as_row (f es st)))) o))
 
   items-sound : (kids : Kids) → Sound e (Listed e.text (Until ImportItem NoLast kind.CloseBrace) kids) (import_items e kids)
   unfolding import_items
@@ -158,9 +158,9 @@ module _ (e : Sheet) where
         (binds e (loops e (path-takes e) path-turn-sound (on_path no_kids)) (λ i. close-sound e node.Import from 0 0 (flagged i.names i.items i.one i.two) i.kids.first)))
       where
         made_of : {u v w : Spot} {a : ℕ} {i : Imported} → Pathed e.text from no_kids u v i → Closed node.Import from 0 0 (flagged i.names i.items i.one i.two) i.kids.first v w a → Becomes e.text Path from (λ q f. f) u w a
-        made_of (pathed d g) (closed {p = q} o) = let b = g 0 none in becomes d b.same (λ es st.
+        made_of (pathed {q = q} d g) c = closing (Becomes e.text Path from (λ q f. f) _) c (λ o. let b = g 0 none in becomes d b.same (λ es st.
             let r = b.push _ es refl (begin st) in
-            relabel (ap (λ z. labelled node.Import from 0 0 z q) r.flags-are) (wrapped _ r.stack o))
+            relabel (ap (λ z. labelled node.Import from 0 0 z q) r.flags-are) (wrapped _ r.stack o)))
 
         go : {u v : Spot} {a : ℕ} → Seq (Star PathTurn (on_path no_kids)) (λ i. Closed node.Import from 0 0 (flagged i.names i.items i.one i.two) i.kids.first) u v a → Becomes e.text Path from (λ q f. f) u v a
         go (r ▸ c) = made_of (path-read r) c

@@ -112,6 +112,8 @@ module _ (e : Sheet) (x y : Sym) (end : ℕ) where
   all {i = i} q (turn (not-ate n ▸ not-saw h ▸ value d s push ▸ added-to ▸ lined a ▸ not-ate o ▸ took t ▸ lined b ▸ gave) rest) = and_so i.kids d s push a t b (all refl rest)
   all q (halt (not-ate n ▸ not-saw h ▸ v ▸ added-to ▸ lined a ▸ not-ate o ▸ took t ▸ lined b ▸ g)) = absurd (not-both (answer g))
   all q (turn (not-ate n ▸ yes-saw h ▸ d ▸ g) rest) = absurd (not-both (sym (answer g)))
+  all q (turn (yes-ate t ▸ g) rest) = absurd (not-both (sym (answer g)))
+  all q (turn (not-ate n ▸ not-saw h ▸ v ▸ added-to ▸ lined a ▸ yes-ate t ▸ g) rest) = absurd (not-both (sym (answer g)))
 
   pub items-sound : (item : Rule ℕ) (last_kind : ℕ) (last : Row → Rule Row) → Takes e (item_turn e item last_kind last end) → Sound e (Value e.text x) item → ((i : Row) → Sound e (Given last_kind (Ended e.text y i)) (last i)) → (kids : Kids)
       → Sound e (Listed e.text (Until x y end) kids) (items_until_with_last e item last_kind last end kids)
@@ -138,6 +140,8 @@ module _ (e : Sheet) (x y : Sym) (end : ℕ) where
       listed (items-final d a t) (λ lo c ts es k st. as-shape (ap (λ z. longer (sofar ts c) z) (sym s)) (record { stack = joined i.kids r (push _ st); count = word_more c k; last = refl }))
   plain {i = i} q (turn (not-ate n ▸ value d s push ▸ added-to ▸ lined a ▸ not-ate o ▸ took t ▸ lined b ▸ gave) rest) = and_so e x y end i.kids d s push a t b (plain refl rest)
   plain q (halt (not-ate n ▸ v ▸ added-to ▸ lined a ▸ not-ate o ▸ took t ▸ lined b ▸ g)) = absurd (not-both (answer g))
+  plain q (turn (yes-ate t ▸ g) rest) = absurd (not-both (sym (answer g)))
+  plain q (turn (not-ate n ▸ v ▸ added-to ▸ lined a ▸ yes-ate t ▸ g) rest) = absurd (not-both (sym (answer g)))
 
   pub until-sound : (item : Rule ℕ) → Takes e (until_turn e item end) → Sound e (Value e.text x) item → (kids : Kids) → Sound e (Listed e.text (Until x y end) kids) (items_until e item end kids)
   unfolding items_until until_turn one_item after_item shape

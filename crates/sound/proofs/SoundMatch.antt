@@ -28,7 +28,7 @@ use Rattle.grammar.specs.Builders.{blank, only, more as longer, row_over, row_be
 use Rattle.grammar.specs.Shape.{shape}
 use Rattle.sound.proofs.Sound.{Spot, at, Claim, Seq, ◌▸◌, Gave, gave, answer, not-both, If, Star, halt, turn, Sound, gives, maps, ifs, binds, loops}
 use Rattle.sound.proofs.SoundSteps.{Bumped, bumped, Took, took, Ate, yes-ate, not-ate, Lined, lined, Added, added-to, add-sound, bump-sound, eat-sound, expect-sound, eat-eol-sound}
-use Rattle.sound.proofs.SoundValues.{Value, value, wrapped, joined, relabel, Started, started, labelled, Closed, closed, start-sound, close-sound}
+use Rattle.sound.proofs.SoundValues.{Value, value, wrapped, joined, relabel, Started, started, labelled, Closed, start-sound, close-sound, closing}
 use Rattle.sound.proofs.SoundItems.{sofar, as-shape, Listed, listed, word_more, word_flags}
 use Rattle.sound.proofs.SoundNames.{Rowing, case-patterns-sound}
 
@@ -40,9 +40,9 @@ module _ (e : Sheet) (d : ℕ) (exprs : (lambda : Bool) → Sound e (Value e.tex
   case-read : {p : Place} {n a c : ℕ} {xs : List ℕ} {u v w z : Spot} {k : Kids} {b : Unit {0}} → Rowing e.text Patterns no_kids (at p n xs) u k → Took kind.FatArrow u v b → Value e.text (Whole true) v w a → CaseOf (start_of p) k a w z c
       → Value e.text Case (at p n xs) z c
   unfolding shape
-  case-read {p} {k = k} (listed b f) (took t) (value {a = a} c s g) (added-to ▸ closed {p = q} o) =
+  case-read {p} {k = k} (listed b f) (took t) (value {q = q} {a = a} c s g) (added-to ▸ u) = closing (Value e.text Case _) u (λ o.
       value (case-of b t c) (λ j. row_before node.MatchCase (start_of p) q (shape b 0 blank) (s j).row)
-      (λ es st. let r = f _ 0 none es refl (begin st) in relabel (ap (λ z. labelled node.MatchCase (start_of p) 0 0 z q) (word_flags _ false false r.count)) (wrapped _ (joined k a (g _ r.stack)) o))
+      (λ es st. let r = f _ 0 none es refl (begin st) in relabel (ap (λ z. labelled node.MatchCase (start_of p) 0 0 z q) (word_flags _ false false r.count)) (wrapped _ (joined k a (g _ r.stack)) o)))
 
   -- parse_match_case
   pub case-sound : Sound e (Value e.text Case) (match_case (levels e d))
@@ -88,9 +88,9 @@ module _ (e : Sheet) (d : ℕ) (exprs : (lambda : Bool) → Sound e (Value e.tex
   match-over : {p q r s : Place} {n m a last c : ℕ} {xs ys : List ℕ} {l : Label} {ks : Trees} {v w : Spot} {k : Kids} → Tok kind.Match p q → (b : Derives e.text (Whole false) q r) → shape b 0 blank ≡ only (tree l ks)
       → ((es : List Entry) → Stack xs n es → Stack ys m (whole n a last l ks ∷ es)) → Tok kind.OpenBrace r s → Rowing e.text Cases (row_of a) (at s m ys) v k → MatchOf (start_of p) k v w c → Value e.text (Atom Other) (at p n xs) w c
   unfolding shape
-  match-over {p} t b same push o (listed g f) (closed {p = q} h) =
+  match-over {p} t b same push o (listed {q = q} g f) u = closing (Value e.text (Atom Other) _) u (λ h.
       value (match-expr t b o g) (λ j. row_over node.Match (start_of p) q (shape g 0 (only (same j).row)))
-      (λ es st. let r = f _ 0 _ es refl (as_row (push es st)) in relabel (ap (λ z. labelled node.Match (start_of p) 0 0 z q) (word_flags _ false false r.count)) (wrapped _ r.stack h))
+      (λ es st. let r = f _ 0 _ es refl (as_row (push es st)) in relabel (ap (λ z. labelled node.Match (start_of p) 0 0 z q) (word_flags _ false false r.count)) (wrapped _ r.stack h)))
 
   pub match-read : {p : Place} {n a : ℕ} {xs : List ℕ} {v : Spot} → Here kind.Match p → Matching (start_of p) (at p n xs) v a → Value e.text (Atom Other) (at p n xs) v a
   match-read h (bumped t ▸ value b s f ▸ took o ▸ r ▸ c) = match-over (record { here = h.stands; next = t }) b s f o (cases-read r) c

@@ -32,7 +32,7 @@ use Rattle.grammar.specs.Symbols.{Form, Ident, Expr as Whole, Posts, Member}
 use Rattle.grammar.specs.Derives.{Derives, openers, NoLambda, no-post, member, safe-member, bracket, dot, double-colon, bracket-meta, dot-meta, double-colon-meta}
 use Rattle.grammar.specs.Builders.{Shape, blank, only, member_over}
 use Rattle.grammar.specs.Shape.{shape}
-use Rattle.sound.proofs.Sound.{Spot, at, Claim, Seq, ◌▸◌, Gave, gave, If, Nothing, Star, halt, turn, Sound, maps, gives, ifs, binds}
+use Rattle.sound.proofs.Sound.{Spot, at, Claim, Seq, ◌▸◌, Gave, gave, If, Nothing, Star, halt, turn, Sound, maps, gives, ifs, binds, going}
 use Rattle.sound.proofs.SoundSteps.{Bumped, bumped, Took, took, Ate, yes-ate, not-ate, Ranges, ranges, no-range, Way, this-one, later-one, Added, added-to, add-sound, bump-sound, unexpected-sound, eat-sound, expect-sound, eat-range-sound, way, otherwise, chooses}
 use Rattle.sound.proofs.SoundValues.{Value, value, wrapped, labelled, Closed, closed, joined, unlinked, SomeAdded, none-added, some-added, close-sound, add-some-sound, ident-sound}
 use Rattle.sound.proofs.SoundExprs.{form_of, fits-member, fits-other, Held, Grown, grown}
@@ -124,23 +124,23 @@ module _ (text : List ℕ) (lambda : Bool) (from : ℕ) where
   -- a member with a property, and one without, for `#`, are turns with their records, whatever production it is
   module _ {o p : Place} (x : Expr) (safe : Ranged) (k : ℕ) (post : (link : ℕ) (q : Place) (d : Derives text (Member k) p q) → Post text lambda from (form_of x) (form_of (member_of x safe link)) o q (λ so. member_over from q safe k so (shape d 0 blank))) where
     named-goes : {n a : ℕ} {xs : List ℕ} {v w : Spot} {b : Next Expr} → Value text (Member k) (at p n xs) v a → MemberRecord from safe k x a v w b → PostTurn text lambda from x (at o n xs) w b
-    named-goes (value {q = q} {l = i} {ks = js} d s f) (added-to ▸ lengthened {k = all} u z ▸ closed r ▸ gave) = goes (post _ q d) (λ last l ks. record {
+    named-goes (value {q = q} {l = i} {ks = js} d s f) (added-to ▸ lengthened {k = all} u z ▸ closed r ▸ c) = going (PostTurn text lambda from x _) c (goes (post _ q d) (λ last l ks. record {
       last-now = all.last;
       label-now = member_label from safe q k;
       kids-now = join (tree l ks) (tree i js);
       same = ap (λ t. member_over from q safe k (only (tree l ks)) t) s;
       push = λ lo es y. member-held x safe _ (wrapped _ (u _ _ _ _ _ _ es (f _ (as_row y.stack))) r);
-    })
+    }))
 
     meta-goes : {q : Place} {n : ℕ} {xs : List ℕ} {w : Spot} {b : Next Expr} (d : Derives text (Member k) p q) → shape d 0 blank ≡ blank → MemberRecord from safe k x 0 (at q n xs) w b → PostTurn text lambda from x (at o n xs) w b
     unfolding join
-    meta-goes {q} d s (added-to ▸ lengthened {k = all} u z ▸ closed r ▸ gave) = goes (post _ q d) (λ last l ks. record {
+    meta-goes {q} d s (added-to ▸ lengthened {k = all} u z ▸ closed r ▸ c) = going (PostTurn text lambda from x _) c (goes (post _ q d) (λ last l ks. record {
       last-now = all.last;
       label-now = member_label from safe q k;
       kids-now = tree l ks;
       same = ap (λ t. member_over from q safe k (only (tree l ks)) t) s;
       push = λ lo es y. member-held x safe _ (wrapped _ (z refl _ _ es (as_row y.stack)) r);
-    })
+    }))
 
 module _ (e : Sheet) (d : ℕ) (wholes : (lambda : Bool) → Sound e (Value e.text (Whole lambda)) (expr (levels e d) lambda)) where
   -- the macro member_expr, word by word: how the property is read, and what closes it

@@ -26,7 +26,7 @@ use Rattle.grammar.specs.Builders.{Shape, couple}
 use Rattle.grammar.specs.Shape.{shape}
 use Rattle.sound.proofs.Sound.{Spot, at, Claim, Seq, ◌▸◌, Gave, gave, Sound, gives, refuses, maps, reads, binds}
 use Rattle.sound.proofs.SoundSteps.{Bumped, bumped, Took, took, Way, this-one, later-one, bump-sound, expect-sound, way, otherwise, chooses, span-place}
-use Rattle.sound.proofs.SoundValues.{Value, value, wrapped, relabel, retree, Started, started, labelled, Closed, closed, Paired, paired, start-sound, close-sound, pair-sound, ident-sound, lit-sound}
+use Rattle.sound.proofs.SoundValues.{Value, value, closing, wrapped, relabel, retree, Started, started, labelled, Closed, Paired, paired, start-sound, close-sound, pair-sound, ident-sound, lit-sound}
 use Rattle.sound.proofs.SoundItems.{Rowed, Listed, listed, Ended, ended_by, Given, given, list-flags, items-sound}
 
 -- the `...` of a pattern, where one stands
@@ -72,13 +72,13 @@ module _ (e : Sheet) (d : ℕ) (inner : Sound e (Value e.text Pattern) (patterns
 
   table-read : {p : Place} {n a : ℕ} {xs : List ℕ} {v : Spot} → Here kind.OpenBrace p → RowOf (Until PatternPair Dots kind.CloseBrace) node.PatternTable (start_of p) (at p n xs) v a → Value e.text Pattern (at p n xs) v a
   unfolding shape
-  table-read {p} h (bumped q ▸ listed d f ▸ closed {p = r} o) =
-      value (pattern-table (record { here = h.stands; next = q }) d) refl (λ es st. let g = f _ 0 none es refl (begin st) in relabel (row_label node.PatternTable (start_of p) r g) (wrapped _ g.stack o))
+  table-read {p} h (bumped q ▸ listed {q = r} d f ▸ c) = closing (Value e.text Pattern _) c (λ o.
+      value (pattern-table (record { here = h.stands; next = q }) d) refl (λ es st. let g = f _ 0 none es refl (begin st) in relabel (row_label node.PatternTable (start_of p) r g) (wrapped _ g.stack o)))
 
   list_read : {p : Place} {n a : ℕ} {xs : List ℕ} {v : Spot} → Here kind.OpenBracket p → RowOf (Until Pattern Dots kind.CloseBracket) node.PatternList (start_of p) (at p n xs) v a → Value e.text Pattern (at p n xs) v a
   unfolding shape
-  list_read {p} h (bumped q ▸ listed d f ▸ closed {p = r} o) =
-      value (pattern-list (record { here = h.stands; next = q }) d) refl (λ es st. let g = f _ 0 none es refl (begin st) in relabel (row_label node.PatternList (start_of p) r g) (wrapped _ g.stack o))
+  list_read {p} h (bumped q ▸ listed {q = r} d f ▸ c) = closing (Value e.text Pattern _) c (λ o.
+      value (pattern-list (record { here = h.stands; next = q }) d) refl (λ es st. let g = f _ 0 none es refl (begin st) in relabel (row_label node.PatternList (start_of p) r g) (wrapped _ g.stack o)))
 
   pub pattern-sound : Sound e (Value e.text Pattern) (pattern e (patterns e d))
   unfolding pattern shape

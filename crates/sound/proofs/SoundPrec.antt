@@ -37,7 +37,7 @@ use Rattle.grammar.specs.Derives.{Derives, expr-of, prec-of, no-op, binary, type
 use Rattle.grammar.specs.Builders.{blank, only, made}
 use Rattle.grammar.specs.Shape.{shape}
 use Rattle.sound.proofs.Links.{place_at, Settled, kind-place}
-use Rattle.sound.proofs.Sound.{Spot, at, Claim, Seq, ◌▸◌, Gave, gave, If, Star, halt, turn, holds, EndsBy, Sound, gives, maps, reads, ifs, binds, loops}
+use Rattle.sound.proofs.Sound.{Spot, at, Claim, Seq, ◌▸◌, Gave, gave, If, Star, halt, turn, holds, EndsBy, Sound, gives, maps, reads, ifs, binds, loops, going}
 use Rattle.sound.proofs.SoundSteps.{Bumped, bumped, Added, added-to, add-sound, bump-sound}
 use Rattle.sound.proofs.SoundValues.{Value, value, wrapped, joined, Started, started, labelled, Closed, closed, start-sound, close-sound}
 use Rattle.sound.proofs.SoundExprs.{fits-other, Expressed, expressed, Grown, grown, Tested, tested, test-sound, Headed, onto}
@@ -101,12 +101,16 @@ module _ (e : Sheet) (d : ℕ) (prec : (n : ℕ) (lambda : Bool) → Sound e (Ex
         (binds e (subst (λ z. Sound e (Expressed e.text (Prec (z + 1) lambda)) ((levels e d).prec (level + 1) lambda)) (sym q) (prec level lambda))
         (λ y. binds e (binds e (add-sound e no_kids (link_of x)) (λ one. binds e (add-sound e one (link_of y)) (λ two. close-sound e node.Binary from k 0 0 two.first))) (λ link. gives e)))
 
+    -- the operator is `is`
+    is-so : {p q : Place} {m k : ℕ} {xs : List ℕ} (x : Expr) {v : Spot} {b : Next Expr} → k ≡ kind.Is → n ≤ level_of k → kind_of p ≡ k → after p ≡ q → Tested e from x (at q m xs) v b → InfixTurn e.text n lambda from x (at p m xs) v b
+    is-so x i u h t (tested w z o) = tests (rw i at u) (record { here = h ∙ i; next = t }) w z (λ lo y l ks es st. wrapped _ (as_row st) o)
+
     operated-by : {p : Place} {m k : ℕ} {xs : List ℕ} {v : Spot} {b : Next Expr} (x : Expr) (t : Bool) → n ≤ level_of k → kind_of p ≡ k → eqb k kind.Is ≡ t
         → Seq Bumped (λ _. If t (Tested e from x) (Seq (Expressed e.text (Prec (level_of k + 1) lambda)) (λ y. Seq (Seq (Added no_kids (link_of x)) (λ one. Seq (Added one (link_of y)) (λ two. Closed node.Binary from k 0 0 two.first))) (λ link. Gave (more (exprs.Other link)))))) (at p m xs) v b
         → InfixTurn e.text n lambda from x (at p m xs) v b
-    operated-by {k = k} x true u h q (bumped t ▸ tested w z o) = let i = eqb-true k kind.Is q in tests (rw i at u) (record { here = h ∙ i; next = t }) w z (λ lo y l ks es st. wrapped _ (as_row st) o)
-    operated-by {k = k} x false u h q (bumped t ▸ expressed {x = y} b s g ▸ (added-to ▸ added-to ▸ closed o) ▸ gave) =
-        goes u (eqb-false k kind.Is q) (record { here = h; next = t }) b s (λ lo z l ks es st. wrapped _ (joined (added no_kids (link_of x)) (link_of y) (g _ (as_row st)).stack) o)
+    operated-by {k = k} x true u h q (bumped t ▸ c) = is-so x (eqb-true k kind.Is q) u h t c
+    operated-by {k = k} x false u h q (bumped t ▸ expressed {x = y} b s g ▸ (added-to ▸ added-to ▸ closed o) ▸ c) = going (InfixTurn e.text n lambda from x _) c
+        (goes u (eqb-false k kind.Is q) (record { here = h; next = t }) b s (λ lo z l ks es st. wrapped _ (joined (added no_kids (link_of x)) (link_of y) (g _ (as_row st)).stack) o))
 
     operated-read : {p : Place} {m k : ℕ} {xs : List ℕ} {v : Spot} {b : Next Expr} (x : Expr) → n ≤ level_of k → kind_of p ≡ k → Seq Bumped (λ _. Operated x k) (at p m xs) v b → InfixTurn e.text n lambda from x (at p m xs) v b
     operated-read {k = k} x u h c = operated-by x (eqb k kind.Is) u h refl c

@@ -34,7 +34,7 @@ use Rattle.grammar.specs.Symbols.{Until, NoLast, Exprs, Block, Atom, Primary, Po
 use Rattle.grammar.specs.Derives.{Derives, NoLambda, no-brace, not_taken, primary-of, call, call-lambda, lambda-alone}
 use Rattle.grammar.specs.Builders.{blank, only, some, made, call_over, covered}
 use Rattle.grammar.specs.Shape.{shape}
-use Rattle.sound.proofs.Sound.{Spot, at, Claim, Seq, ◌▸◌, Gave, gave, If, Star, Sound, gives, maps, ifs, binds, loops}
+use Rattle.sound.proofs.Sound.{Spot, at, Claim, Seq, ◌▸◌, Gave, gave, If, Star, Sound, gives, maps, ifs, binds, loops, going}
 use Rattle.sound.proofs.SoundSteps.{Ate, yes-ate, not-ate, Saw, yes-saw, not-saw, check_sound, eat-sound}
 use Rattle.sound.proofs.SoundValues.{Value, wrapped, relabel, Started, started, labelled, Closed, closed, start-sound, close-sound}
 use Rattle.sound.proofs.SoundItems.{sofar, Rowed, as-shape, Listed, listed, word_flags}
@@ -91,9 +91,9 @@ call-record-sound e from kids a = maps e (λ u v b c. go c) (binds e (lengthens 
     go : {u v : Spot} {b : Next Expr}
         → Seq (Lengthened kids a) (λ all. Seq (Closed node.Call from 0 0 (flagged kids.count 0 (ltb 0 a) false) all.first) (λ link. Gave (more (exprs.Call link (record { kids = uncounted all; arguments = kids.count; lambda = ltb 0 a }))))) u v b
         → CallMade from kids a u v b
-    go (lengthened {k = all} u z ▸ closed {p = p} r ▸ gave) = call-made
+    go (lengthened {k = all} u z ▸ closed {p = p} r ▸ y) = going (CallMade from kids a _) y (call-made
         (λ q lo c ts es h w st. held p all c (ap (λ k. ltb 0 k) q) h w (wrapped _ (z q ts lo es st) r))
-        (λ lo mid last c i ts js es h w st. held p all c (lt-ltb 0 a (link-some st)) h w (wrapped _ (u lo mid last i ts js es st) r))
+        (λ lo mid last c i ts js es h w st. held p all c (lt-ltb 0 a (link-some st)) h w (wrapped _ (u lo mid last i ts js es st) r)))
 
 -- a block as a trailing lambda
 abbrev Lambda : List ℕ → Claim ℕ

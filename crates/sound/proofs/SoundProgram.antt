@@ -24,7 +24,6 @@ use Rattle.cursor.proofs.Meaning.{built-meaning}
 use Rattle.cursor.specs.Visits.{uses}
 use Rattle.cursor.proofs.Once.{built-once}
 use Rattle.cursor.proofs.Grows.{begin}
-use Rattle.types.specs.Items.{start}
 use Rattle.rules.specs.Levels.{levels, program_record, program}
 use Rattle.grammar.specs.Places.{Place, opening}
 use Rattle.grammar.specs.Symbols.{Exprs}
@@ -48,6 +47,11 @@ program_label from p flags = record { kind = node.Program; start = from; end = m
 
 data Sealed (from : ℕ) (row : Kids) : Spot → Spot → ℕ → Type 0 where
   sealed : {p : Place} {n : ℕ} {xs : List ℕ} → node_words * suc n ≤ length xs → Sealed from row (at p n xs) (at p (n + 1) (write xs n (program_label from p (flagged row.count 0 false false)) row.first)) (n + 1)
+
+-- what holds of the spot behind that record holds where a rule has made one
+sealing : {from : ℕ} {row : Kids} {p q : Place} {n m a : ℕ} {xs ys : List ℕ} (P : Place → ℕ → List ℕ → Type 0) → Sealed from row (at p n xs) (at q m ys) a
+    → (node_words * suc n ≤ length xs → P p (n + 1) (write xs n (program_label from p (flagged row.count 0 false false)) row.first)) → P q m ys
+sealing P (sealed o) f = f o
 
 -- what a sheet is read as, between two places, in a buffer of so many records
 record SheetOn (e : Sheet) (p q : Place) (ys : List ℕ) (m : ℕ) : Type 0 where
@@ -73,12 +77,13 @@ module _ (e : Sheet) where
       go (appended r) = sealed r
 
   sheet-read : {p q : Place} {m link : ℕ} {xs ys zs : List ℕ} → Agree ys zs 0 m (node_words * m) → length zs ≡ length ys → Seq (Rowing e.text (Exprs kind.Eof) no_kids) (λ row. Sealed (opening e.tokens) row) (at p 0 xs) (at q m ys) link → SheetOn e p q zs m
-  sheet-read {q = q} {m = m} same long (listed d f ▸ sealed {n = n} r) =
+  sheet-read {p = p} {zs = zs} same long (listed {q = q} {m = n} d f ▸ c) = sealing (λ q m ys. Agree ys zs 0 m (node_words * m) → length zs ≡ length ys → SheetOn e p q zs m) c (λ r same long.
       let g = f 0 0 none [] refl (begin (bottom {hi = 0} (omega arith))) in
       let st = keep (relabel (ap (λ z. program_label (opening e.tokens) q z) (word_flags _ false false g.count)) (wrapped _ g.stack r)) same (le_refl _) long in
       let t = top st in
       let o = room st in
-      record { der = d; root = t.root; is = t.is; tree_is = built-meaning t.tree-of (omega (arith, o)); once = λ i h. built-once t.tree-of (omega (arith, o)) i (omega arith) h }
+      record { der = d; root = t.root; is = t.is; tree_is = built-meaning t.tree-of (omega (arith, o)); once = λ i h. built-once t.tree-of (omega (arith, o)) i (omega arith) h })
+      same long
 
   pub program-sound : length e.tokens < 2 ^ 32 → ((i : ℕ) → i < count e.tokens → kind_at e.tokens i ≡ kind.Eof → ⊥) → (d : ℕ) (s1 : State) (w w1 : World) (link : ℕ) → program (levels e d) outset w ≡ done s1 w1 link → s1.errors ≡ 0
       → (zs : List ℕ) → Agree w1.nodes zs 0 s1.nodes (node_words * s1.nodes) → length zs ≡ length w1.nodes → SheetRead e zs s1.nodes

@@ -82,6 +82,10 @@ pub data Appended (l : Label) (first : ℕ) : Spot → Spot → ℕ → Type 0 w
 pub data Added (k : Kids) (link : ℕ) : Spot → Spot → Kids → Type 0 where
   added-to : {p : Place} {n : ℕ} {xs : List ℕ} → Added k link (at p n xs) (at p n (linked xs k.last link)) (added k link)
 
+-- what holds of a row with one more in it holds where a rule has come to that
+pub adding : {k j : Kids} {link n : ℕ} {p : Place} {xs : List ℕ} {v : Spot} (P : Spot → Kids → Type 0) → Added k link (at p n xs) v j → P (at p n (linked xs k.last link)) (added k link) → P v j
+adding P added-to z = z
+
 -- other flags
 pub data Reflagged (link flags : ℕ) : Spot → Spot → Unit {0} → Type 0 where
   flags_of : {p : Place} {n : ℕ} {xs : List ℕ} → Reflagged link flags (at p n xs) (at p n (reflagged xs link flags)) tt

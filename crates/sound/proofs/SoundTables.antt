@@ -31,13 +31,18 @@ use Rattle.grammar.specs.Builders.{blank, only, more as longer, over, couple, ro
 use Rattle.grammar.specs.Shape.{shape}
 use Rattle.sound.proofs.Sound.{Spot, at, Claim, Seq, ◌▸◌, Gave, gave, If, Else, stayed, undone, Sound, gives, maps, reads, ifs, binds, attempts}
 use Rattle.sound.proofs.SoundSteps.{Bumped, bumped, Took, took, Ate, yes-ate, not-ate, Lined, lined, Appended, appended, append-sound, bump-sound, eat-sound, expect-sound, eat-eol-sound}
-use Rattle.sound.proofs.SoundValues.{Value, value, wrapped, relabel, Started, started, labelled, Closed, closed, Paired, paired, start-sound, close-sound, pair-sound, lit-sound}
+use Rattle.sound.proofs.SoundValues.{Value, value, wrapped, relabel, Started, started, labelled, Closed, closed, Paired, paired, start-sound, close-sound, pair-sound, lit-sound, closing}
 use Rattle.sound.proofs.SoundItems.{Listed, listed, word_flags, until-sound}
 use Rattle.sound.proofs.SoundNames.{Rowing}
 
 -- a colon, and the record of a key in parentheses, which ends before it
 data Keyed (from link : ℕ) : Spot → Spot → ℕ → Type 0 where
   keyed : {p q : Place} {n : ℕ} {xs : List ℕ} → Tok kind.Colon p q → node_words * suc n ≤ length xs → Keyed from link (at p n xs) (at q (n + 1) (write xs n (labelled node.Paren from 0 0 0 p) link)) (n + 1)
+
+-- what holds of the spot behind that record and of its link holds where a rule has read the colon
+keying : {from link n a : ℕ} {p : Place} {xs : List ℕ} {v : Spot} (P : Spot → ℕ → Type 0) → Keyed from link (at p n xs) v a
+    → ((q : Place) → Tok kind.Colon p q → node_words * suc n ≤ length xs → P (at q (n + 1) (write xs n (labelled node.Paren from 0 0 0 p) link)) (n + 1)) → P v a
+keying P (keyed t o) f = f _ t o
 
 keyed-sound : (e : Sheet) (from link : ℕ) → Sound e (Keyed from link) (paren_key_at e from link)
 unfolding paren_key_at
@@ -55,7 +60,7 @@ module _ (e : Sheet) (d : ℕ) (exprs : (lambda : Bool) → Sound e (Value e.tex
     where
       go : {u v : Spot} {a : ℕ} → Seq Started (λ from. Seq (Ate kind.OpenParen) (λ b. If b (Seq (Value e.text (Whole true)) (λ link. Seq (Took kind.CloseParen) (λ _. Keyed from link))) (Seq (Value e.text Lit) (λ link. Seq (Took kind.Colon) (λ _. Gave link))))) u v a
           → Value e.text Key u v a
-      go (started {p = p} ▸ yes-ate t ▸ value b s f ▸ took c ▸ keyed {p = q} k o) = value (paren-key t b c k) (λ i. over node.Paren (start_of p) q (s i)) (λ es st. wrapped _ (as_row (f es st)) o)
+      go (started {p = p} ▸ yes-ate t ▸ value b s f ▸ took {q = q} c ▸ u) = keying (Value e.text Key _) u (λ r k o. value (paren-key t b c k) (λ i. over node.Paren (start_of p) q (s i)) (λ es st. wrapped _ (as_row (f es st)) o))
       go (started ▸ not-ate n ▸ value b s f ▸ took c ▸ gave) = value (literal-key b c) s f
 
   -- parse_table_property
@@ -94,14 +99,14 @@ module _ (e : Sheet) (d : ℕ) (exprs : (lambda : Bool) → Sound e (Value e.tex
     table-read : {p q r s : Place} {n m a c last : ℕ} {xs ys : List ℕ} {l : Label} {ks : Trees} {v : Spot} → from ≡ start_of p → Tok kind.OpenBrace p q → Derives e.text Eols q r → (b : Derives e.text Key r s) → shape b 0 blank ≡ only (tree l ks)
         → ((es : List Entry) → Stack xs n es → Stack ys m (whole n a last l ks ∷ es)) → TableFrom (start_of r) a (at s m ys) v c → Value e.text (Atom Other) (at p n xs) v c
     unfolding shape join
-    table-read {p} {r = r} u t o b s f (value c y g ▸ paired {p = q} h ▸ lined w ▸ yes-ate z ▸ closed {p = x} k) =
+    table-read {p} {r = r} u t o b s f (value c y g ▸ paired {p = q} h ▸ lined w ▸ yes-ate {q = x} z ▸ v) = closing (Value e.text (Atom Other) _) v (λ k.
         value (table t (until-of o (items-final (property b c) w z))) (λ i. row_over node.Table (start_of p) x (longer blank (couple node.TableProperty (start_of r) q (s i) (y i))))
-        (λ es st. relabel (ap (λ j. labelled node.Table j 0 0 1 x) u) (wrapped _ (as_row (h _ _ _ _ _ _ es (g _ (as_row (f es st))))) k))
-    table-read {p} {r = r} u t o b s f (value c y g ▸ paired {p = q} h ▸ lined w ▸ not-ate n ▸ took z ▸ listed (until-of i j) k ▸ closed {p = x} m) =
+        (λ es st. relabel (ap (λ j. labelled node.Table j 0 0 1 x) u) (wrapped _ (as_row (h _ _ _ _ _ _ es (g _ (as_row (f es st))))) k)))
+    table-read {p} {r = r} u t o b s f (value c y g ▸ paired {p = q} h ▸ lined w ▸ not-ate n ▸ took z ▸ listed {q = x} (until-of i j) k ▸ v) = closing (Value e.text (Atom Other) _) v (λ m.
         value (table t (until-of o (items-comma (property b c) w z i j))) (λ i. row_over node.Table (start_of p) x (shape j 0 (longer blank (couple node.TableProperty (start_of r) q (s i) (y i)))))
         (λ es st.
         let a = k _ 1 _ es refl (as_row (h _ _ _ _ _ _ es (g _ (as_row (f es st))))) in
-        relabel (λ i. labelled node.Table (u i) 0 0 (word_flags _ false false a.count i) x) (wrapped _ a.stack m))
+        relabel (λ i. labelled node.Table (u i) 0 0 (word_flags _ false false a.count i) x) (wrapped _ a.stack m)))
 
   module _ (bodies : (end : ℕ) → Sound e (Rowing e.text (Exprs end) no_kids) ((levels e d).exprs end)) (kept : (s : State) → Keeps (mark s) Plain (key (levels e d))) where
     abbrev BlockFrom : ℕ → ℕ → Claim ℕ
@@ -121,8 +126,8 @@ module _ (e : Sheet) (d : ℕ) (exprs : (lambda : Bool) → Sound e (Value e.tex
     unfolding shape
     brace-read h (bumped t ▸ lined o ▸ yes-ate z ▸ closed k) = value (table (record { here = h.stands; next = t }) (until-of o (items-end z))) refl (λ es st. wrapped _ (begin st) k)
     brace-read {p} h (bumped t ▸ lined o ▸ not-ate n ▸ started ▸ stayed (value b s f ▸ c)) = table-read (start_of p) refl (record { here = h.stands; next = t }) o b s f c
-    brace-read {p} h (bumped t ▸ lined o ▸ not-ate n ▸ started {p = q} ▸ undone keep (listed b f ▸ closed {p = r} k ▸ closed m)) =
+    brace-read {p} h (bumped t ▸ lined o ▸ not-ate n ▸ started {p = q} ▸ undone keep (listed b f ▸ closed {p = r} k ▸ v)) = closing (Value e.text (Atom Other) _) v (λ m.
         value (block-expr (record { here = h.stands; next = t }) o n b) refl
         (λ es st.
         let g = f _ 0 none es refl (begin (keep es st)) in
-        wrapped _ (as_row (relabel (ap (λ z. labelled node.Block (start_of q) 0 0 z r) (word_flags _ false false g.count)) (wrapped _ g.stack k))) m)
+        wrapped _ (as_row (relabel (ap (λ z. labelled node.Block (start_of q) 0 0 z r) (word_flags _ false false g.count)) (wrapped _ g.stack k))) m))

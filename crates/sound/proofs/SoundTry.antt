@@ -16,7 +16,7 @@ use Rattle.cursor.specs.Tree.{Trees, none, join, tree}
 use Rattle.cursor.specs.Tree as trees
 use Rattle.cursor.proofs.Ends.{ill}
 use Rattle.cursor.proofs.Laws.{join-none, join-assoc}
-use Rattle.cursor.proofs.Finished.{Built, built, nil}
+use Rattle.cursor.proofs.Finished.{Built, built, nil, snoc}
 use Rattle.cursor.proofs.RecordPaths.{linked, added}
 use Rattle.cursor.proofs.Stack.{Entry, whole, Stack, push-whole}
 use Rattle.cursor.proofs.Grows.{as_row, flagged as relabelled}
@@ -38,9 +38,9 @@ use Rattle.grammar.specs.Derives.{Derives, not-expr, neg-expr, tried, no-unary, 
 use Rattle.grammar.specs.Builders.{Shape, blank, only, some, made, more as longer, handler_over, handled}
 use Rattle.grammar.specs.Shape.{shape}
 use Rattle.sound.proofs.Links.{kind-place}
-use Rattle.sound.proofs.Sound.{Spot, at, Claim, Seq, ◌▸◌, Gave, gave, answer, not-both, If, Nothing, Star, halt, turn, came-refl, Sound, gives, maps, reads, ifs, binds, loops}
+use Rattle.sound.proofs.Sound.{Spot, at, Claim, Seq, ◌▸◌, Gave, gave, answer, not-both, If, Nothing, Star, halt, turn, came-refl, Sound, gives, maps, reads, ifs, binds, loops, going}
 use Rattle.sound.proofs.SoundSteps.{Bumped, bumped, Took, took, Saw, yes-saw, not-saw, Way, this-one, later-one, Added, added-to, Reflagged, flags_of, add-sound, reflag-sound, bump-sound, check_sound, expect-sound, way, otherwise, chooses}
-use Rattle.sound.proofs.SoundValues.{Value, value, wrapped, joined, relabel, retree, Started, started, labelled, Closed, closed, start-sound, close-sound, ident-sound}
+use Rattle.sound.proofs.SoundValues.{Value, value, wrapped, joined, relabel, retree, Started, started, labelled, Closed, closed, start-sound, close-sound, ident-sound, closing}
 use Rattle.sound.proofs.SoundItems.{sofar, as-shape, Listed, listed, list-flags, word_more}
 use Rattle.sound.proofs.ListShape.{behind-none, params-behind}
 use Rattle.sound.proofs.SoundTypes.{atoms-sound, params-sound}
@@ -50,6 +50,7 @@ use Rattle.sound.proofs.SoundExprs.{fits-other, call_fits, Held, Expressed, expr
 childless : {xs : List ℕ} {lo hi root : ℕ} {l : Label} {ks : Trees} → Built xs lo hi root 0 l ks → ks ≡ none
 unfolding join
 childless (built e q (nil h) (nil o) z u) = u
+childless (built e q (snoc _ _ _ _) x z u) = elim x [ ]
 
 last_some : {xs : List ℕ} {n lo root last : ℕ} {l : Label} {ks : Trees} {es : List Entry} → some ks ≡ true → Stack xs n (whole lo root last l ks ∷ es) → 0 < last
 last_some {last = zero} h (push-whole s b z r) = absurd (true≢false (sym h ∙ ap some (childless b)))
@@ -99,11 +100,11 @@ module _ (e : Sheet) (d : ℕ) (blocks : Sound e (Value e.text Block) (block (le
     where
       go : {u v : Spot} {a : ℕ} → Seq Started (λ from. Seq (Took kind.With) (λ _. Seq (Value e.text Ident) (λ name. Seq (Listed e.text (Params false) (row_of name)) (λ i. Seq (Value e.text Block) (λ body. Seq (Added i.kids body) (λ all.
           Closed node.EffectHandler from 0 0 (flagged i.kids.count 0 (is_ended i.ended) false) all.first)))))) u v a → Value e.text Handler u v a
-      go (started {p = p} ▸ took t ▸ value {l = l} {ks = ks} b s f ▸ listed {j = i} c g ▸ value {a = a} k y h ▸ added-to ▸ closed {p = q} o) =
+      go (started {p = p} ▸ took t ▸ value {l = l} {ks = ks} b s f ▸ listed {j = i} c g ▸ value {a = a} k y h ▸ added-to {p = q} ▸ u) = closing (Value e.text Handler _) u (λ o.
           value (handler-of t b c k) (λ j. handler_over (start_of p) q (s j) (shape c 0 blank) (y j))
           (λ es st.
           let r = as-shape (params-behind c (tree l ks) 0 ∙ behind-none (tree l ks) (shape c 0 blank)) (g _ 0 _ es refl (as_row (f es st))) in
-          relabel (ap (λ z. labelled node.EffectHandler (start_of p) 0 0 z q) (list-flags false r)) (wrapped _ (retree (join-assoc (tree l ks) (shape c 0 blank).row _) (joined i.kids a (h _ r.stack))) o))
+          relabel (ap (λ z. labelled node.EffectHandler (start_of p) 0 0 z q) (list-flags false r)) (wrapped _ (retree (join-assoc (tree l ks) (shape c 0 blank).row _) (joined i.kids a (h _ r.stack))) o)))
 
   -- handlers in a row
   abbrev HandlerTurn : Kids → Claim (Next Kids)
@@ -158,13 +159,13 @@ module _ (e : Sheet) (d : ℕ) (blocks : Sound e (Value e.text Block) (block (le
         → ((es : List Entry) → Stack xs n es → Held ys m n last (exprs.Call link called) l ks es) → Lated e.text called.kids (at r m ys) v kids
         → Seq (Reflagged link (flagged called.arguments kids.count called.lambda false)) (λ _. Gave (exprs.Other link)) v w z → Expressed e.text (Unary lambda) (at p n xs) w z
     unfolding shape
-    with-handlers {called = called} {l = l} {ks = ks} t b s g (lated k u) (flags_of ▸ gave) =
-        expressed (tried t b k) (ap (λ z. only (handled z.row (shape k 0 blank))) s)
+    with-handlers {called = called} {l = l} {ks = ks} t b s g (lated k u) (flags_of ▸ o) = going (Expressed e.text (Unary lambda) _) o
+        (expressed (tried t b k) (ap (λ z. only (handled z.row (shape k 0 blank))) s)
         (λ es st.
         let i = g es st in
         let c = call_fits i.fits in
         let y = u _ _ 0 l ks none es c.kids c.uncounted (moved (sym c.behind) (rekids (sym (join-none ks)) i.stack)) in
-        record { fits = fits-other; stack = relabel (ap (λ z. relabelled l z) (call_flags called.arguments (shape k 0 blank).count called.lambda c.flags y.count)) (reflags _ y.stack) })
+        record { fits = fits-other; stack = relabel (ap (λ z. relabelled l z) (call_flags called.arguments (shape k 0 blank).count called.lambda c.flags y.count)) (reflags _ y.stack) }))
       where
         moved : {xs : List ℕ} {n lo root a b : ℕ} {l : Label} {ks : Trees} {es : List Entry} → a ≡ b → Stack xs n (whole lo root a l ks ∷ es) → Stack xs n (whole lo root b l ks ∷ es)
         moved {xs} {n} {lo} {root} {l = l} {ks} {es} q st = subst (λ z. Stack xs n (whole lo root z l ks ∷ es)) q st
@@ -190,13 +191,13 @@ module _ (e : Sheet) (d : ℕ) (blocks : Sound e (Value e.text Block) (block (le
 
     negated-read : {p : Place} {n : ℕ} {xs : List ℕ} {v : Spot} {z : Expr} → kind_of p ≡ kind.Not → Negating (start_of p) (at p n xs) v z → Expressed e.text (Unary lambda) (at p n xs) v z
     unfolding shape
-    negated-read {p} h (negating (bumped t ▸ expressed b s g ▸ closed {p = q} o ▸ gave)) =
-        expressed (not-expr (record { here = h; next = t }) b) (ap (λ z. made node.Unary (start_of p) q kind.Not 0 0 z.row) s) (λ es st. record { fits = fits-other; stack = relabel (ap (λ k. labelled node.Unary (start_of p) k 0 0 q) h) (wrapped _ (as_row (g es st).stack) o) })
+    negated-read {p} h (negating (bumped t ▸ expressed b s g ▸ closed {p = q} o ▸ c)) = going (Expressed e.text (Unary lambda) _) c
+        (expressed (not-expr (record { here = h; next = t }) b) (ap (λ z. made node.Unary (start_of p) q kind.Not 0 0 z.row) s) (λ es st. record { fits = fits-other; stack = relabel (ap (λ k. labelled node.Unary (start_of p) k 0 0 q) h) (wrapped _ (as_row (g es st).stack) o) }))
 
     minus-read : {p : Place} {n : ℕ} {xs : List ℕ} {v : Spot} {z : Expr} → kind_of p ≡ kind.Sub → Negating (start_of p) (at p n xs) v z → Expressed e.text (Unary lambda) (at p n xs) v z
     unfolding shape
-    minus-read {p} h (negating (bumped t ▸ expressed b s g ▸ closed {p = q} o ▸ gave)) =
-        expressed (neg-expr (record { here = h; next = t }) b) (ap (λ z. made node.Unary (start_of p) q kind.Sub 0 0 z.row) s) (λ es st. record { fits = fits-other; stack = relabel (ap (λ k. labelled node.Unary (start_of p) k 0 0 q) h) (wrapped _ (as_row (g es st).stack) o) })
+    minus-read {p} h (negating (bumped t ▸ expressed b s g ▸ closed {p = q} o ▸ c)) = going (Expressed e.text (Unary lambda) _) c
+        (expressed (neg-expr (record { here = h; next = t }) b) (ap (λ z. made node.Unary (start_of p) q kind.Sub 0 0 z.row) s) (λ es st. record { fits = fits-other; stack = relabel (ap (λ k. labelled node.Unary (start_of p) k 0 0 q) h) (wrapped _ (as_row (g es st).stack) o) }))
 
     -- parse_expr_unary
     pub unary-sound : Sound e (Expressed e.text (Unary lambda)) (unary (levels e d) lambda)

@@ -28,7 +28,7 @@ use Rattle.grammar.specs.Builders.{blank, only, more as longer, ending, marked, 
 use Rattle.grammar.specs.Shape.{shape}
 use Rattle.sound.proofs.Sound.{Spot, at, Claim, Seq, ◌▸◌, Gave, gave, answer, not-both, If, Star, halt, turn, Sound, gives, refuses, maps, ifs, binds, loops}
 use Rattle.sound.proofs.SoundSteps.{Bumped, bumped, Took, took, Ate, yes-ate, not-ate, Saw, yes-saw, not-saw, Way, this-one, later-one, Added, added-to, add-sound, bump-sound, check_sound, eat-sound, expect-sound, way, otherwise, chooses}
-use Rattle.sound.proofs.SoundValues.{Value, Lastly, value, Optional, some-value, no_value, wrapped, joined, relabel, retree, Started, started, labelled, Closed, closed, Paired, paired, SomeAdded, start-sound, close-sound, pair-sound, add-some-sound, ident-sound, lit-sound}
+use Rattle.sound.proofs.SoundValues.{Value, Lastly, value, Optional, some-value, no_value, wrapped, joined, relabel, retree, Started, started, labelled, Closed, Paired, paired, SomeAdded, start-sound, close-sound, pair-sound, add-some-sound, ident-sound, lit-sound, closing}
 use Rattle.sound.proofs.SoundSignature.{Signed, signed_by, signed}
 use Rattle.sound.proofs.SoundItems.{sofar, as-shape, Listed, listed, Ended, ended_by, given-any, word_more, word_flags, list-flags, items-sound}
 
@@ -73,9 +73,9 @@ module _ (e : Sheet) (d : ℕ) (atom : Sound e (Value e.text TyAtom) (atoms e d)
       unite : {p q : Place} {n m a last : ℕ} {xs ys : List ℕ} {l : Label} {ks : Trees} {v w : Spot} {k : Kids} {c : ℕ} (d : Derives e.text TyAtom p q) → shape d 0 blank ≡ only (tree l ks)
           → ((es : List Entry) → Stack xs n es → Stack ys m (whole n a last l ks ∷ es)) → Here kind.VBar q → Listed e.text Bars (added no_kids a) (at q m ys) v (so k)
           → Closed node.Union (start_of p) 0 0 (flagged k.count 0 false false) k.first v w c → Value e.text Ty (at p n xs) w c
-      unite {p} d s f h (listed b g) (closed {p = q} o) =
+      unite {p} d s f h (listed {q = q} b g) c = closing (Value e.text Ty _) c (λ o.
           value (union d h b) (ap (λ z. row_over node.Union (start_of p) q (shape b 0 (longer blank z))) s)
-          (λ es st. let r = g _ 1 _ es refl (as_row (f es st)) in relabel (ap (λ z. labelled node.Union (start_of p) 0 0 z q) (word_flags _ false false r.count)) (wrapped _ r.stack o))
+          (λ es st. let r = g _ 1 _ es refl (as_row (f es st)) in relabel (ap (λ z. labelled node.Union (start_of p) 0 0 z q) (word_flags _ false false r.count)) (wrapped _ r.stack o)))
 
       go : {u v : Spot} {a : ℕ} → Seq Started (λ from. Seq (Value e.text TyAtom) (λ first. Seq (Saw kind.VBar) (λ b. If b
           (Seq (Added no_kids first) (λ k. Seq (Star UnionTurn k) (λ all. Closed node.Union from 0 0 (flagged all.count 0 false false) all.first))) (Gave first)))) u v a → Value e.text Ty u v a
@@ -188,13 +188,13 @@ module _ (e : Sheet) (d : ℕ) (atom : Sound e (Value e.text TyAtom) (atoms e d)
 
   paren-read : {p : Place} {n a : ℕ} {xs : List ℕ} {v : Spot} → Here kind.OpenParen p → Paren (start_of p) (at p n xs) v a → Value e.text TyAtom (at p n xs) v a
   unfolding shape
-  paren-read {p} h (bumped q ▸ value d s f ▸ took t ▸ added-to ▸ closed {p = r} o) =
-      value (ty-paren (record { here = h.stands; next = q }) d t) (λ i. over node.TyParen (start_of p) r (s i)) (λ es st. wrapped _ (as_row (f es st)) o)
+  paren-read {p} h (bumped q ▸ value d s f ▸ took t ▸ added-to {p = r} ▸ c) = closing (Value e.text TyAtom _) c (λ o.
+      value (ty-paren (record { here = h.stands; next = q }) d t) (λ i. over node.TyParen (start_of p) r (s i)) (λ es st. wrapped _ (as_row (f es st)) o))
 
   table-read : {p : Place} {n a : ℕ} {xs : List ℕ} {v : Spot} → Here kind.OpenBrace p → Table (start_of p) (at p n xs) v a → Value e.text TyAtom (at p n xs) v a
   unfolding shape
-  table-read {p} h (bumped q ▸ listed d f ▸ closed {p = r} o) =
-      value (ty-table (record { here = h.stands; next = q }) d) refl (λ es st. let g = f _ 0 none es refl (begin st) in relabel (ap (λ z. labelled node.TyTable (start_of p) 0 0 z r) (list-flags false g)) (wrapped _ g.stack o))
+  table-read {p} h (bumped q ▸ listed {q = r} d f ▸ c) = closing (Value e.text TyAtom _) c (λ o.
+      value (ty-table (record { here = h.stands; next = q }) d) refl (λ es st. let g = f _ 0 none es refl (begin st) in relabel (ap (λ z. labelled node.TyTable (start_of p) 0 0 z r) (list-flags false g)) (wrapped _ g.stack o)))
 
   function-read : {p : Place} {n a : ℕ} {xs : List ℕ} {v : Spot} → Here kind.Fn p → Function (start_of p) (at p n xs) v a → Value e.text TyAtom (at p n xs) v a
   unfolding shape
@@ -202,9 +202,9 @@ module _ (e : Sheet) (d : ℕ) (atom : Sound e (Value e.text TyAtom) (atoms e d)
     where
       go : {p q : Place} {n r c : ℕ} {xs : List ℕ} {i : Row} {kids : Kids} {v w : Spot} → Here kind.Fn p → after p ≡ q → Signed e.text (Until Ty (Rest Ty) kind.CloseParen) i r kids (at q n xs) v
           → Closed node.TyFunction (start_of p) 0 0 (flagged i.kids.count 0 (is_ended i.ended) (ltb 0 r)) kids.first v w c → Value e.text TyAtom (at p n xs) w c
-      go {p} h q (signed_by d b f) (closed {p = o} u) =
+      go {p} h q (signed_by {o = o} d b f) c = closing (Value e.text TyAtom _) c (λ u.
           value (ty-function (record { here = h.stands; next = q }) d b) refl
-          (λ es st. let g = f es st in relabel (ap (λ z. labelled node.TyFunction (start_of p) 0 0 z o) g.flags) (wrapped _ (retree (ap (λ z. join (shape d 0 blank).row z) (sym (join-none (shape b 0 blank).row))) g.stack) u))
+          (λ es st. let g = f es st in relabel (ap (λ z. labelled node.TyFunction (start_of p) 0 0 z o) g.flags) (wrapped _ (retree (ap (λ z. join (shape d 0 blank).row z) (sym (join-none (shape b 0 blank).row))) g.stack) u)))
 
   pub type-atom-sound : Sound e (Value e.text TyAtom) (type_atom e (atoms e d))
   unfolding type_atom shape

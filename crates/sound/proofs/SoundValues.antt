@@ -87,6 +87,11 @@ labelled k from one two flags p = record { kind = k; start = from; end = p.prev;
 pub data Closed (k from one two flags first : ℕ) : Spot → Spot → ℕ → Type 0 where
   closed : {p : Place} {n : ℕ} {xs : List ℕ} → node_words * suc n ≤ length xs → Closed k from one two flags first (at p n xs) (at p (n + 1) (write xs n (labelled k from one two flags p) first)) (n + 1)
 
+-- what holds of the spot behind that record and of its link holds where a rule has closed one
+pub closing : {k from one two flags first : ℕ} {p : Place} {n a : ℕ} {xs : List ℕ} {v : Spot} (P : Spot → ℕ → Type 0) → Closed k from one two flags first (at p n xs) v a
+    → (node_words * suc n ≤ length xs → P (at p (n + 1) (write xs n (labelled k from one two flags p) first)) (n + 1)) → P v a
+closing P (closed o) f = f o
+
 -- the record of two values: the second on the stack, and the first below it
 pub data Paired (k from a b : ℕ) : Spot → Spot → ℕ → Type 0 where
   paired : {p : Place} {n m c : ℕ} {xs ys : List ℕ} → ((lo mid last : ℕ) (l : Label) (ts ks : Trees) (es : List Entry) → Stack xs n (whole mid b last l ks ∷ row lo a a ts ∷ es) → Stack ys m (whole lo c b (labelled k from 0 0 0 p) (join ts (tree l ks)) ∷ es))

@@ -1,6 +1,8 @@
 // Reads the types and patterns on standard input and prints what they are read as: the listing, the words of each record that the listing
 // does not show, and the place of the next token. A case: its form (1 byte), what is left of the depth (1 byte), and the length of a bundle
 // (4 bytes, the lowest first) with that bundle. oracle/types makes the cases and says what is to be printed.
+#![tactic(auto)]
+
 ghost use Rattle.std.specs.Prelude.{◌≡◌, List, ℕ};
 ghost use Rattle.cursor.specs.Sheet.{sheet};
 ghost use Rattle.cursor.specs.Rule.{world};
@@ -9,10 +11,14 @@ ghost use Rattle.type_cases.specs.Forms.{by_form};
 
 use cursor::records::{FLAGS, NODE_WORDS, ONE, TWO, log_error};
 use cursor::{Built, Failure, Fault, Limits, Moved, State};
-use libc::{STDIN_FILENO, STDOUT_FILENO};
 use listing::{Counts, Decoded, Listed};
 use types::patterns::pattern;
 use types::types::{ty, type_atom};
+
+// The numbers of the open files of a program: the standard input and output.
+const STDIN_FILENO: i32 = 0;
+
+const STDOUT_FILENO: i32 = 1;
 
 // The bytes of a case before its bundle.
 const HEAD: usize = 6;

@@ -17,7 +17,7 @@ use Rattle.cursor.specs.Checks.{expect, pick}
 use Rattle.cursor.specs.Records.{no_kids, flagged}
 use Rattle.types.specs.declared.items.Items.{Items}
 use Rattle.types.specs.Lits.{lit, ident}
-use Rattle.types.specs.Items.{start, close, pair, is_ended, so, after_last, last_item, item_turn, items_until_with_last}
+use Rattle.types.specs.Items.{close, pair, is_ended, so, after_last, last_item, item_turn, items_until_with_last}
 use Rattle.types.specs.Patterns.{span_of, pattern_end, pattern_last, table_pattern_pair, pattern_item, pattern_items, pattern_ended, pattern_row, patterns}
 use Rattle.types.proofs.Placed.{pattern_chain, pattern_by, pattern-placed}
 use Rattle.types.proofs.TypePaths.{starts}

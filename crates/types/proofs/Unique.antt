@@ -32,7 +32,7 @@ use Rattle.types.proofs.types.type_atom.Reads as type-atom
 use Rattle.types.proofs.types.params.Reads as params
 use Rattle.types.proofs.types.closure_params.Reads as closure-params
 use Rattle.types.proofs.patterns.pattern.Reads as pattern
-use Rattle.types.proofs.patterns.span_of.Reads as Span-of
+use Rattle.types.proofs.patterns.span_of.Reads as span-of
 
 pub listed : Told as_listed
 listed = record { back = back; answer = answer; buffers = buffers }
@@ -86,7 +86,7 @@ one-is-ended κs args r s x y p q = p ∙ sym q
 pub one-literal-of : (κs : _) (args : _) (r s : _) (x y : _) → literal-of.Post κs args r x → literal-of.Post κs args s y → r ≡ s
 one-literal-of κs args r s x y p q = p ∙ sym q
 
-pub one-span-of : (κs : _) (args : _) (r s : _) (x y : _) → Span-of.Post κs args r x → Span-of.Post κs args s y → r ≡ s
+pub one-span-of : (κs : _) (args : _) (r s : _) (x y : _) → span-of.Post κs args r x → span-of.Post κs args s y → r ≡ s
 one-span-of κs args r s x y p q = p ∙ sym q
 
 -- a rule on records

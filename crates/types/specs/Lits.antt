@@ -14,7 +14,7 @@ use Rattle.cursor.specs.declared.Ranged.TheVariants as ranged
 use Rattle.cursor.specs.Node as node
 use Rattle.cursor.specs.Layout.{FAULTY_INT}
 use Rattle.cursor.specs.Sheet.{Sheet, kind_at, range_at}
-use Rattle.cursor.specs.Rule.{fault, failed, Rule, ◌>>=◌, ◌>>◌}
+use Rattle.cursor.specs.Rule.{fault, failed, Rule, ◌>>◌}
 use Rattle.cursor.specs.Tokens.{bump}
 use Rattle.cursor.specs.Checks.{unexpected, expect}
 use Rattle.cursor.specs.Records.{append, no_link}

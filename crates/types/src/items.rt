@@ -13,20 +13,20 @@ use cursor::tokens::eat_eol;
 use cursor::{Built, Failure, Kids, Label, Limits, Moved, Ranged, State, Test};
 
 // The row of the items, which are counted, with a last item as one more child that is not counted, or as a bare range.
-#[derive(Drop)]
+#[derive(Clone, Copy)]
 pub struct Items {
     pub kids: Kids,
     pub ended: Ranged,
 }
 
-#[derive(Drop)]
+#[derive(Clone, Copy)]
 pub enum Listed {
     Row(State, Items),
     Failed(Failure),
 }
 
 // The answer of a turn: go on with the row, or stop with it.
-#[derive(Drop)]
+#[derive(Clone, Copy)]
 pub enum Turned {
     More(State, Kids),
     Stop(State, Kids),

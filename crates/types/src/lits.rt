@@ -12,7 +12,7 @@ use cursor::{Built, Fault, Label, Limits, Moved, Ranged, Span, State, nodes};
 use ints::{IntAnswer, Sign};
 
 // What a token is as a literal: the label of its record, a faulty integer, or no literal at all.
-#[derive(Drop)]
+#[derive(Clone, Copy)]
 pub enum Literal {
     Value(Label),
     Faulty(u8),

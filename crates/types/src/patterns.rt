@@ -63,6 +63,7 @@ fn pattern_last(
 }
 
 // A pair of a table pattern.
+#[cycle(patterns)]
 fn table_pattern_pair(
     text: &[u8],
     tokens: &[u32],
@@ -98,6 +99,7 @@ fn table_pattern_pair(
 }
 
 // One item, by its rule.
+#[cycle(patterns)]
 fn pattern_item(
     text: &[u8],
     tokens: &[u32],
@@ -117,6 +119,7 @@ fn pattern_item(
 }
 
 // Rust's parse_items_until_with_last, for the item rules of patterns.
+#[cycle(patterns)]
 fn pattern_items(
     text: &[u8],
     tokens: &[u32],
@@ -192,6 +195,7 @@ fn pattern_items(
 }
 
 // A table or a list pattern.
+#[cycle(patterns)]
 fn pattern_row(
     text: &[u8],
     tokens: &[u32],
@@ -227,6 +231,7 @@ fn pattern_row(
 }
 
 // Rust's parse_pattern. A level is used up on each entry.
+#[cycle(patterns)]
 pub fn pattern(
     text: &[u8],
     tokens: &[u32],

@@ -48,6 +48,7 @@ fn type_end(rule: u32) -> u8
 }
 
 // A union: one record over its parts.
+#[cycle(types)]
 fn union_of(
     text: &[u8],
     tokens: &[u32],
@@ -85,6 +86,7 @@ fn union_of(
 }
 
 // Rust's parse_type. A single part is not wrapped.
+#[cycle(types)]
 pub fn ty(
     text: &[u8],
     tokens: &[u32],
@@ -116,6 +118,7 @@ pub fn ty(
 }
 
 // Rust's parse_returns: the link to the type, 0 where there is none.
+#[cycle(types)]
 pub fn returns(
     text: &[u8],
     tokens: &[u32],
@@ -136,6 +139,7 @@ pub fn returns(
 }
 
 // The type of a name: an atom, or any type.
+#[cycle(types)]
 fn named_type(
     text: &[u8],
     tokens: &[u32],
@@ -155,6 +159,7 @@ fn named_type(
 }
 
 // Rust's parse_typed_ident and, for closures, parse_atom_typed_ident. Without a type it is its name.
+#[cycle(types)]
 pub fn typed_ident(
     text: &[u8],
     tokens: &[u32],
@@ -192,6 +197,7 @@ pub fn typed_ident(
 }
 
 // A pair of a table type.
+#[cycle(types)]
 fn table_ty_pair(
     text: &[u8],
     tokens: &[u32],
@@ -227,6 +233,7 @@ fn table_ty_pair(
 }
 
 // The other pairs of a table type.
+#[cycle(types)]
 fn table_ty_other(
     text: &[u8],
     tokens: &[u32],
@@ -272,6 +279,7 @@ fn table_ty_other(
 }
 
 // One item, by its rule.
+#[cycle(types)]
 fn type_item(
     text: &[u8],
     tokens: &[u32],
@@ -297,6 +305,7 @@ fn type_item(
 }
 
 // The last item, by the rule of its list.
+#[cycle(types)]
 fn type_last_item(
     text: &[u8],
     tokens: &[u32],
@@ -320,6 +329,7 @@ fn type_last_item(
 }
 
 // The last item as one more child, which is not counted, and the end of the list.
+#[cycle(types)]
 fn type_last(
     text: &[u8],
     tokens: &[u32],
@@ -351,6 +361,7 @@ fn type_last(
 }
 
 // Rust's parse_items_until_with_last, for the item rules of types.
+#[cycle(types)]
 pub fn type_items(
     text: &[u8],
     tokens: &[u32],
@@ -428,6 +439,7 @@ pub fn type_items(
 }
 
 // A type in parentheses.
+#[cycle(types)]
 fn type_paren(
     text: &[u8],
     tokens: &[u32],
@@ -465,6 +477,7 @@ fn type_paren(
 }
 
 // A table type.
+#[cycle(types)]
 fn type_table(
     text: &[u8],
     tokens: &[u32],
@@ -505,6 +518,7 @@ fn type_table(
 }
 
 // A function type: it has no opening parenthesis.
+#[cycle(types)]
 fn type_function(
     text: &[u8],
     tokens: &[u32],
@@ -546,6 +560,7 @@ fn type_function(
 }
 
 // Rust's parse_type_atom. A level is used up on each entry.
+#[cycle(types)]
 pub fn type_atom(
     text: &[u8],
     tokens: &[u32],

@@ -3,6 +3,8 @@
 // the node buffer and of the error buffer, the bytes of the expected buffer and the allowance; then a bundle. An answer is the number, the
 // four counts and each lent buffer up to its last word that is not zero, behind the count of these words: so it tells every word. The last
 // piece says how many they were, so that a stream cut short is seen.
+#![tactic(auto)]
+
 use listing::Decoded;
 use pieces::{Piece, word};
 
@@ -20,7 +22,7 @@ const ERROR_ROOM: usize = 396;
 const EXPECTED_ROOM: usize = 65537;
 
 // What a piece lends: words of the node and the error buffer, bytes of the expected buffer, readings.
-#[derive(Drop)]
+#[derive(Clone, Copy)]
 struct Lent {
     nodes: usize,
     errors: usize,

@@ -1,0 +1,9 @@
+-- `listing::list::lines` meets its contract.
+-- Assumes nothing.
+use Rattle.listing.specs.Listing.{listing_of}
+use Rattle.listing.proofs.Pages.{and_then}
+use Rattle.listing.proofs.list.lines.Goals as goal
+
+pub returns : goal.returns
+unfolding listing_of
+returns c = and_then _ _ _ c.first_line-p1.ensures (and_then _ _ _ c.node_lines-p2.ensures c.error_lines.ensures)
