@@ -1,21 +1,9 @@
 -- What the lister prints for a bundle.
 use Rattle.std.specs.Prelude.{ℕ, ◌*◌, List, true, false, eqb, take, replicate}
-use Rattle.listing.specs.declared.list.Counts.{Counts}
 use Rattle.listing.specs.Bundle as bundle
 use Rattle.listing.specs.Listing.{listing_of, refusal_of}
-use Rattle.parser.specs.declared.Answer.{Answer}
-use Rattle.parser.specs.declared.Answer.TheVariants as answers
 use Rattle.parser.specs.Outcome.{Outcome}
 use Rattle.parser.specs.Parse.{parse}
-
--- the number of an answer, and what it counts
-abbrev pub number_of : Answer → ℕ
-number_of (answers.Read r) = 0
-number_of (answers.Refused n) = n
-
-abbrev pub counts_of : Answer → Counts
-counts_of (answers.Read r) = record { reads = r.reads; nodes = r.nodes; errors = r.errors }
-counts_of (answers.Refused n) = record { reads = 0; nodes = 0; errors = 0 }
 
 -- a reading is listed, a refusal told by its number
 unfoldable pub printed : Outcome → List ℕ

@@ -4,10 +4,9 @@
 ghost use Rattle.std.specs.Prelude.{◌≡◌};
 ghost use Rattle.listing.specs.Answers.{wrote, written};
 ghost use Rattle.listing.specs.Listing.{refusal_of};
-ghost use Rattle.answer.specs.Answer.{number_of, counts_of, answer_of, sheet_answer};
+ghost use Rattle.answer.specs.Answer.{answer_of, sheet_answer};
 
-use listing::{Counts, Decoded, Listed};
-use parser::Answer;
+use listing::{Counts, LENT_ERRORS, LENT_EXPECTED, LENT_NODES, LENT_OUT};
 
 // The readings that the lister allows.
 const ALLOWANCE: u32 = 100000;
@@ -15,52 +14,25 @@ const ALLOWANCE: u32 = 100000;
 // The number that stands for a bundle that is none.
 const NO_BUNDLE: u8 = 12;
 
-// An answer's number.
-fn number(answer: Answer) -> u8
-    ensures { result ≡ number_of answer }
-{
-    match answer {
-        Answer::Read(_) => 0,
-        Answer::Refused(n) => n,
-    }
-}
+// The bytes of text and the words of tokens that the lister has room for.
+const TEXT_ROOM: usize = 16384;
 
-// What an answer counts: nothing, where it is a refusal.
-fn counts(answer: Answer) -> Counts
-    ensures { result ≡ counts_of answer }
-{
-    match answer {
-        Answer::Read(r) => Counts {
-            reads: r.reads,
-            nodes: r.nodes,
-            errors: r.errors,
-        },
-        Answer::Refused(_) => Counts {
-            reads: 0,
-            nodes: 0,
-            errors: 0,
-        },
-    }
-}
+const TOKEN_ROOM: usize = 4500;
 
 // What is printed for a refusal.
-fn refused(out: &mut [u8; 262144], n: u8) -> usize
-    ensures { wrote result out.new ≡ written (refusal_of n) out.old }
+fn refused(out: &mut [u8; LENT_OUT], number: u8) -> usize
+    ensures { wrote result out.new ≡ written (refusal_of number) out.old }
 {
-    let listed = listing::refusal(out, n);
-    match listed {
-        Listed::Written(k) => k,
-        Listed::NoRoom => 0,
-    }
+    listing::refusal(out, number).unwrap()
 }
 
 // What is printed for a sheet.
-fn sheet(text: &[u8], tokens: &[u32], out: &mut [u8; 262144]) -> usize
+fn sheet(text: &[u8], tokens: &[u32], out: &mut [u8; LENT_OUT]) -> usize
     ensures { wrote result out.new ≡ written (sheet_answer text.now tokens.now) out.old }
 {
-    let mut nodes = [0u32; 8192];
-    let mut errors = [0u32; 96];
-    let mut expected = [0u8; 1024];
+    let mut nodes = [0u32; LENT_NODES];
+    let mut errors = [0u32; LENT_ERRORS];
+    let mut expected = [0u8; LENT_EXPECTED];
     let got = parser::parse(
         text,
         tokens,
@@ -69,22 +41,27 @@ fn sheet(text: &[u8], tokens: &[u32], out: &mut [u8; 262144]) -> usize
         &mut errors,
         &mut expected,
     );
-    let n = number(got);
-    if n != 0 {
-        return refused(out, n);
+    match got {
+        Ok(reading) => {
+            let counts = Counts {
+                reads: reading.reads,
+                nodes: reading.nodes,
+                errors: reading.errors,
+            };
+            listing::lent_listing(&nodes, &errors, &expected, out, counts)
+        }
+        Err(refusal) => refused(out, refusal.number()),
     }
-    listing::lent_listing(&nodes, &errors, &expected, out, counts(got))
 }
 
 // Writes what is printed for a bundle at the buffer's start, and answers how many bytes it is.
-pub fn answer(bundle: &[u8], out: &mut [u8; 262144]) -> usize
+pub fn answer(bundle: &[u8], out: &mut [u8; LENT_OUT]) -> usize
     ensures { wrote result out.new ≡ written (answer_of bundle.now) out.old }
 {
-    let mut text = [0u8; 16384];
-    let mut tokens = [0u32; 4500];
-    let decoded = listing::decode(bundle, &mut text, &mut tokens);
-    match decoded {
-        Decoded::Sheet(n, m) => sheet(&text[..n], &tokens[..3 * m], out),
-        Decoded::Refused => refused(out, NO_BUNDLE),
+    let mut text = [0u8; TEXT_ROOM];
+    let mut tokens = [0u32; TOKEN_ROOM];
+    match listing::decode(bundle, &mut text, &mut tokens) {
+        Some(found) => sheet(&text[..found.text], &tokens[..3 * found.tokens], out),
+        None => refused(out, NO_BUNDLE),
     }
 }

@@ -1,14 +1,13 @@
 -- The rules on atoms and operators are blind to what the lent buffers held, where those handed over are.
+use Rattle.std.specs.Prelude.{Some, None, Option}
 use mathlib.Core.Bool.{Bool, true, false}
 use Prim.Native.Nat.{ℕ, ◌+◌}
 use lib.Dec.{ltb, eqb}
 use Rattle.kinds.specs.Number as kind
-use Rattle.kinds.specs.declared.operator.Operator.{Operator}
-use Rattle.kinds.specs.declared.operator.Operator.TheVariants as operators
+use Rattle.kinds.specs.declared.operator.BinOp.{BinOp}
 use Rattle.kinds.specs.Operators.{binary_of, precedence_of}
 use Rattle.cursor.specs.declared.Kids.{Kids}
 use Rattle.cursor.specs.declared.Span.{Span}
-use Rattle.cursor.specs.declared.Ranged.TheVariants as ranged
 use Rattle.cursor.specs.Node as node
 use Rattle.cursor.specs.Sheet.{kind_at, range_at}
 use Rattle.cursor.specs.Rule.{Rule}
@@ -46,15 +45,15 @@ module _ {r : Inner} (x : Handed r) where
 
   fn-blind : (from : ℕ) → Blind (fn_expr r from)
   unfolding fn_expr
-  fn-blind from = thens (bump-blind r.sheet) (binds (function-blind x from false) (λ f. fn-record-blind from ranged.Nowhere 0 f))
+  fn-blind from = thens (bump-blind r.sheet) (binds (function-blind x from false) (λ f. fn-record-blind from None 0 f))
 
   closure-blind : (from : ℕ) → Blind (closure_expr r from)
   unfolding closure_expr
-  closure-blind from = binds (function-blind x from true) (λ f. fn-record-blind from ranged.Nowhere 0 f)
+  closure-blind from = binds (function-blind x from true) (λ f. fn-record-blind from None 0 f)
 
   do-blind : (from : ℕ) → Blind (do_expr r from)
   unfolding do_expr
-  do-blind from = thens (bump-blind r.sheet) (binds (block-blind x 0) (λ body. binds (close-blind node.Do from 0 0 0 body) (λ f. fn-record-blind from ranged.Nowhere 0 f)))
+  do-blind from = thens (bump-blind r.sheet) (binds (block-blind x 0) (λ body. binds (close-blind node.Do from 0 0 0 body) (λ f. fn-record-blind from None 0 f)))
 
   alternate-blind : Blind (alternate r)
   unfolding alternate
@@ -169,10 +168,10 @@ module _ {r : Inner} (x : Handed r) where
   unfolding operated
   operated-blind from lambda a k level = ifs (eqb k kind.Is) (type-check-blind r.sheet from a) (binds (x.prec (level + 1) lambda) (λ b. binds (couple-blind node.Binary from k (link_of a) (link_of b)) (λ link. gives)))
 
-  infix-by-blind : (from min : ℕ) (lambda : Bool) (a : Expr) (k : ℕ) (o : Operator) → Blind (infix_by r from min lambda a k o)
+  infix-by-blind : (from min : ℕ) (lambda : Bool) (a : Expr) (k : ℕ) (o : Option BinOp) → Blind (infix_by r from min lambda a k o)
   unfolding infix_by
-  infix-by-blind from min lambda a k (operators.Binary op) = ifs (ltb (precedence_of op) min) gives (thens (bump-blind r.sheet) (operated-blind from lambda a k (precedence_of op)))
-  infix-by-blind from min lambda a k operators.Nothing = gives
+  infix-by-blind from min lambda a k (Some op) = ifs (ltb (precedence_of op) min) gives (thens (bump-blind r.sheet) (operated-blind from lambda a k (precedence_of op)))
+  infix-by-blind from min lambda a k None = gives
 
   infix-turn-blind : (from min : ℕ) (lambda : Bool) (a : Expr) → Blind (infix_turn r from min lambda a)
   unfolding infix_turn

@@ -12,7 +12,7 @@ use Rattle.cursor.specs.declared.State.{State}
 use Rattle.cursor.specs.declared.Fault.{Fault}
 use Rattle.cursor.specs.Layout.{node_words, error_words}
 use Rattle.cursor.specs.Sheet.{Sheet}
-use Rattle.cursor.specs.Rule.{World, fault, refusal, refused, Out, done, failed, bind, or_else, Rule, ◌>>=◌, ◌>>◌, give, refuse, if_so, Next, more, stop, Turn, next, turns, iterate}
+use Rattle.cursor.specs.Rule.{World, fault, refused, Out, done, failed, bind, or_else, Rule, ◌>>=◌, ◌>>◌, give, refuse, if_so, Next, more, stop, Turn, next, turns, iterate}
 use Rattle.cursor.specs.Tokens.{rewind}
 use Rattle.cursor.specs.Attempts.{try_parse}
 use Rattle.cursor.proofs.Keeps.{Mark, mark, Stands, mark-stands, Same}
@@ -43,7 +43,7 @@ pub data Refuses : ℕ → Type 0 where
 pub data Twins {A : Type 0} (m : Mark) : Out A → Out A → Type 0 where
   well : {s : State} {w v : World} {a : A} → Stands m s → Twin s w v → Twins m (done s w a) (done s v a)
   ill : {s : State} {w v : World} {f : Fault} → Stands m s → Twin s w v → Twins m (failed (fault s w f)) (failed (fault s v f))
-  cut : {n : ℕ} → Refuses n → Twins m (failed (refused (refusal n))) (failed (refused (refusal n)))
+  cut : {n : ℕ} → Refuses n → Twins m (failed (refused n)) (failed (refused n))
 
 pub record Blind {A : Type 0} (r : Rule A) : Type 0 where
   pub ends : (m : Mark) (s : State) (w v : World) → Stands m s → Twin s w v → Twins m (r s w) (r s v)

@@ -78,7 +78,7 @@ write_same n l first h =
 
 -- no more kinds are listed than the live list has
 listed-few : (f : Fault) (s : State) → 0 + list_length f s ≤ s.live
-listed-few f s = by (eqb f.listed 1)
+listed-few f s = by f.listed
   where
     by : (b : Bool) → 0 + cond b (min s.live live_room) 0 ≤ s.live
     by true = omega arith

@@ -4,7 +4,7 @@ use Prim.Native.Nat.{ℕ}
 use lib.Dec.{eqb}
 use Rattle.kinds.specs.Number as kind
 use Rattle.cursor.specs.declared.Kids.{Kids}
-use Rattle.cursor.specs.declared.Ranged.{Ranged}
+use Rattle.cursor.specs.Sheet.{Ranged}
 use Rattle.cursor.specs.Node as node
 use Rattle.cursor.specs.Rule.{Rule}
 use Rattle.cursor.proofs.Chosen.{all, ◌&◌}

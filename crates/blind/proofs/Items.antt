@@ -1,11 +1,10 @@
 -- The rules on literals, names and lists of items are blind to what the lent buffers held.
+use Rattle.std.specs.Prelude.{Some, None}
 use Prim.Native.Nat.{ℕ, zero, suc}
 use Rattle.kinds.specs.Number as kind
 use Rattle.cursor.specs.declared.Kids.{Kids}
 use Rattle.cursor.specs.declared.Span.{Span}
-use Rattle.cursor.specs.declared.Ranged.{Ranged}
-use Rattle.cursor.specs.declared.Ranged.TheVariants as ranged
-use Rattle.cursor.specs.Sheet.{Sheet, kind_at, range_at}
+use Rattle.cursor.specs.Sheet.{Sheet, kind_at, range_at, Ranged}
 use Rattle.cursor.specs.Rule.{Rule}
 use Rattle.cursor.specs.Records.{no_kids}
 use Rattle.types.specs.declared.items.Items.{Items}
@@ -43,8 +42,8 @@ module _ (e : Sheet) where
 
   lit-at-blind : (k : ℕ) (r : Ranged) → Blind (lit_at e k r)
   unfolding lit_at
-  lit-at-blind k (ranged.At r) = lit-from-blind r (literal e.text k r)
-  lit-at-blind k ranged.Nowhere = unexpected-blind e
+  lit-at-blind k (Some r) = lit-from-blind r (literal e.text k r)
+  lit-at-blind k None = unexpected-blind e
 
   pub lit-blind : Blind (lit e)
   unfolding lit
@@ -52,8 +51,8 @@ module _ (e : Sheet) where
 
   ident-at-blind : (r : Ranged) → Blind (ident_at e r)
   unfolding ident_at
-  ident-at-blind (ranged.At r) = thens (expect-blind e kind.Ident) (append-blind _ 0)
-  ident-at-blind ranged.Nowhere = unexpected-blind e
+  ident-at-blind (Some r) = thens (expect-blind e kind.Ident) (append-blind _ 0)
+  ident-at-blind None = unexpected-blind e
 
   pub ident-blind : Blind (ident e)
   unfolding ident

@@ -1,22 +1,19 @@
 -- The records and steps of parts are blind to what the lent buffers held.
+use Rattle.std.specs.Prelude.{Some, None, Option}
 use mathlib.Core.Bool.{Bool}
 use Prim.Native.Nat.{ℕ, zero, suc}
 use Rattle.kinds.specs.Number as kind
 use Rattle.cursor.specs.declared.Kids.{Kids}
 use Rattle.cursor.specs.declared.Fault.{Fault}
 use Rattle.cursor.specs.declared.Span.{Span}
-use Rattle.cursor.specs.declared.Ranged.{Ranged}
-use Rattle.cursor.specs.declared.Ranged.TheVariants as ranged
+use Rattle.cursor.specs.Sheet.{Sheet, kind_at, range_at, Ranged}
 use Rattle.cursor.specs.Node as node
-use Rattle.cursor.specs.Sheet.{Sheet, kind_at, range_at}
 use Rattle.cursor.specs.Rule.{Rule}
 use Rattle.cursor.specs.Records.{no_kids}
 use Rattle.types.specs.declared.items.Items.{Items}
 use Rattle.types.specs.Items.{is_ended}
 use Rattle.parts.specs.declared.values.Called.{Called}
 use Rattle.parts.specs.declared.values.Expr.{Expr}
-use Rattle.parts.specs.declared.steps.Checked.{Checked}
-use Rattle.parts.specs.declared.steps.Checked.TheVariants as checked
 use Rattle.parts.specs.Values.{link_of}
 use Rattle.parts.specs.When.{fail_with}
 use Rattle.parts.specs.Records.{couple, row_record, list_record, wrapped, block_record, fn_record, function_kind, function_record, handler_record, handlers_flagged, if_record, call_record, member_record}
@@ -122,15 +119,15 @@ module _ (e : Sheet) where
     unfolding case_patterns
     case-patterns-blind = loops pattern-turn-blind e no_kids
 
-  type-checked-blind : (from : ℕ) (x : Expr) (r : Span) (c : Checked) → Blind (type_checked e from x r c)
+  type-checked-blind : (from : ℕ) (x : Expr) (r : Span) (c : Option ℕ) → Blind (type_checked e from x r c)
   unfolding type_checked
-  type-checked-blind from x r (checked.Type n) = thens (bump-blind e) (binds (close-blind node.TypeCheck from n _ 0 (link_of x)) (λ link. gives))
-  type-checked-blind from x r checked.Unknown = unexpected-blind e
+  type-checked-blind from x r (Some n) = thens (bump-blind e) (binds (close-blind node.TypeCheck from n _ 0 (link_of x)) (λ link. gives))
+  type-checked-blind from x r None = unexpected-blind e
 
   type-check-at-blind : (from : ℕ) (x : Expr) (k : ℕ) (r : Ranged) → Blind (type_check_at e from x k r)
   unfolding type_check_at
-  type-check-at-blind from x k (ranged.At r) = type-checked-blind from x r (checked_type e.text k r)
-  type-check-at-blind from x k ranged.Nowhere = unexpected-blind e
+  type-check-at-blind from x k (Some r) = type-checked-blind from x r (checked_type e.text k r)
+  type-check-at-blind from x k None = unexpected-blind e
 
   pub type-check-blind : (from : ℕ) (x : Expr) → Blind (type_check e from x)
   unfolding type_check

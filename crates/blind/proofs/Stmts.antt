@@ -1,13 +1,12 @@
 -- The rules on statements are blind to what the lent buffers held, where the rules handed over are.
+use Rattle.std.specs.Prelude.{Some, None, Option}
 use mathlib.Core.Bool.{true, false}
 use Prim.Native.Nat.{ℕ}
 use lib.Dec.{ltb, eqb}
 use Rattle.kinds.specs.Number as kind
 use Rattle.cursor.specs.declared.Kids.{Kids}
-use Rattle.cursor.specs.declared.Ranged.{Ranged}
-use Rattle.cursor.specs.declared.Ranged.TheVariants as ranged
+use Rattle.cursor.specs.Sheet.{Ranged, range_at}
 use Rattle.cursor.specs.Node as node
-use Rattle.cursor.specs.Sheet.{range_at}
 use Rattle.cursor.specs.Rule.{Rule, ◌>>=◌, give, Next, more}
 use Rattle.cursor.specs.Records.{add, no_kids}
 use Rattle.cursor.proofs.Chosen.{all, ◌&◌}
@@ -15,8 +14,6 @@ use Rattle.types.specs.Types.{named}
 use Rattle.parts.specs.declared.values.Called.{Called}
 use Rattle.parts.specs.declared.values.Expr.{Expr}
 use Rattle.parts.specs.declared.values.Expr.TheVariants as exprs
-use Rattle.parts.specs.declared.values.AssignLeft.{AssignLeft}
-use Rattle.parts.specs.declared.values.AssignLeft.TheVariants as assigns
 use Rattle.parts.specs.Values.{to_assign_left, row_with, uncounted}
 use Rattle.parts.specs.When.{fail_with}
 use Rattle.parts.specs.Steps.{alone, operator_of}
@@ -47,10 +44,10 @@ module _ {r : Inner} (x : Handed r) where
   unfolding right
   right-blind from k op link = binds (expr-blind x true) (λ value. couple-blind k from op link value)
 
-  set-to-blind : (from sign : ℕ) (l : AssignLeft) → Blind (set_to r from sign l)
+  set-to-blind : (from sign : ℕ) (l : Option ℕ) → Blind (set_to r from sign l)
   unfolding set_to
-  set-to-blind from sign (assigns.To link) = thens (bump-blind r.sheet) (ifs (eqb sign kind.Assign) (right-blind from node.Assign 0 link) (right-blind from node.AssignOp (operator_of sign) link))
-  set-to-blind from sign assigns.Nothing = unexpected-blind r.sheet
+  set-to-blind from sign (Some link) = thens (bump-blind r.sheet) (ifs (eqb sign kind.Assign) (right-blind from node.Assign 0 link) (right-blind from node.AssignOp (operator_of sign) link))
+  set-to-blind from sign None = unexpected-blind r.sheet
 
   set-blind : (from sign : ℕ) (a : Expr) → Blind (set r from sign a)
   unfolding set
@@ -66,8 +63,8 @@ module _ {r : Inner} (x : Handed r) where
 
   left-of-blind : (comma : Ranged) (kids : Kids) → Blind (left_of r comma kids)
   unfolding left_of
-  left-of-blind ranged.Nowhere kids = gives
-  left-of-blind (ranged.At comma) kids = after-expr _ (x.prec 1 true) joins joins (λ link called. refused) (λ link. refused)
+  left-of-blind None kids = gives
+  left-of-blind (Some comma) kids = after-expr _ (x.prec 1 true) joins joins (λ link called. refused) (λ link. refused)
     where
       refused : Blind {A = Next Kids} (fail_with (alone kind.Comma comma))
       refused = fail-with-blind _
@@ -91,13 +88,13 @@ module _ {r : Inner} (x : Handed r) where
   unfolding rights
   rights-blind from left value = binds (add-blind (uncounted left) value) (λ begun. binds (loops (right-turn-blind left.count) r.sheet begun) (λ kids. close-blind node.AssignMulti from 0 0 _ kids.first))
 
-  multi-to-blind : (from : ℕ) (l : AssignLeft) → Blind (multi_to r from l)
+  multi-to-blind : (from : ℕ) (l : Option ℕ) → Blind (multi_to r from l)
   unfolding multi_to
-  multi-to-blind from (assigns.To one) =
+  multi-to-blind from (Some one) =
       binds (lefts-blind (row_with one)) (λ kids. thens (expect-blind r.sheet kind.Assign) (binds (expr-blind x true) (λ value. binds (check-blind r.sheet kind.Comma) (λ several. ifs several
       (rights-blind from kids value)
       (row-record-blind node.AssignUnpack from kids value)))))
-  multi-to-blind from assigns.Nothing = unexpected-blind r.sheet
+  multi-to-blind from None = unexpected-blind r.sheet
 
   multi-blind : (from : ℕ) (a : Expr) → Blind (multi r from a)
   unfolding multi
@@ -128,12 +125,12 @@ module _ {r : Inner} (x : Handed r) where
   unfolding plain
   plain-blind =
       binds (start-blind r.sheet) (λ from. chooses r.sheet (stmt_cases r from)
-      (import-stmt-blind r.sheet from & effect-stmt-blind r.sheet r.type_atom x.type_atom from ranged.Nowhere & glo-blind from & all)
+      (import-stmt-blind r.sheet from & effect-stmt-blind r.sheet r.type_atom x.type_atom from None & glo-blind from & all)
       (assign-blind from))
 
   function-stmt-blind : Blind (function_stmt r)
   unfolding function_stmt
-  function-stmt-blind = binds (start-blind r.sheet) (λ from. fn-stmt-blind x from ranged.Nowhere)
+  function-stmt-blind = binds (start-blind r.sheet) (λ from. fn-stmt-blind x from None)
 
   stmt-blind : Blind (stmt r)
   unfolding stmt

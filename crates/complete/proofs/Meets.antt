@@ -12,7 +12,7 @@ use lib.ListN.{length}
 use Rattle.cursor.specs.declared.State.{State}
 use Rattle.cursor.specs.declared.Fault.{Fault}
 use Rattle.cursor.specs.Sheet.{Sheet}
-use Rattle.cursor.specs.Rule.{World, fault, refusal, refused, Out, done, failed, Rule, Next, more, stop}
+use Rattle.cursor.specs.Rule.{World, fault, refused, Out, done, failed, Rule, Next, more, stop}
 use Rattle.cursor.proofs.RecordPaths.{room_for}
 use Rattle.grammar.specs.Places.{Place}
 use Rattle.grammar.specs.Symbols.{Sym}
@@ -96,7 +96,7 @@ module _ (e : Sheet) where
 
   pub data EndsAt {A : Type 0} (d : ℕ) (c : Cost) (q : Place) (P : A → Type 0) (s : State) (w : World) : Out A → Type 0 where
     arrives : {s1 : State} {w1 : World} {a : A} → Arrived d q c s w s1 w1 → P a → EndsAt d c q P s w (done s1 w1 a)
-    short : {n : ℕ} → Lacks d c s w n → EndsAt d c q P s w (failed (refused (refusal n)))
+    short : {n : ℕ} → Lacks d c s w n → EndsAt d c q P s w (failed (refused n))
 
   pub record Meets {A : Type 0} (d : ℕ) (p q : Place) (c : Cost) (P : A → Type 0) (r : Rule A) : Type 0 where
     pub runs : (s : State) (w : World) → Settled e.tokens s → place_at e.tokens s ≡ p → EndsAt d c q P s w (r s w)
@@ -108,7 +108,7 @@ module _ (e : Sheet) where
   -- a fault, after the readings of a cost; it may have come to need as many records and levels
   pub data FailsAt {A : Type 0} (d : ℕ) (c : Cost) (s : State) (w : World) : Out A → Type 0 where
     faulty : {s1 : State} {w1 : World} {f : Fault} → s1.reads ≡ s.reads + c.reads → s1.reads ≤ max s.reads e.limits.allowance → length w1.nodes ≡ length w.nodes → FailsAt d c s w (failed (fault s1 w1 f))
-    lacking : {n : ℕ} → Lacks d c s w n → FailsAt d c s w (failed (refused (refusal n)))
+    lacking : {n : ℕ} → Lacks d c s w n → FailsAt d c s w (failed (refused n))
 
   pub record Fails {A : Type 0} (d : ℕ) (p : Place) (c : Cost) (r : Rule A) : Type 0 where
     pub fails : (s : State) (w : World) → Settled e.tokens s → place_at e.tokens s ≡ p → FailsAt d c s w (r s w)

@@ -1,5 +1,6 @@
 -- Statements that begin with an expression: it alone, or the assignment that it begins. The rules count the sides of an assignment to several in words, which
 -- keep the counts of a list of tokens that is not too long.
+use Rattle.std.specs.Prelude.{Some}
 use mathlib.Core.Path.{◌≡◌, refl, sym, ap, subst}
 use mathlib.Core.List.{List}
 use mathlib.Core.Bool.{Bool, true, false}
@@ -17,7 +18,6 @@ use Rattle.cursor.specs.Checks.{choose}
 use Rattle.cursor.specs.Records.{word32, add}
 use Rattle.parts.specs.declared.values.Expr.{Expr}
 use Rattle.parts.specs.declared.values.Expr.TheVariants as exprs
-use Rattle.parts.specs.declared.values.AssignLeft.TheVariants as assigns
 use Rattle.parts.specs.Values.{link_of, row_with, uncounted}
 use Rattle.parts.specs.When.{when}
 use Rattle.parts.specs.Steps.{operator_of}
@@ -115,7 +115,7 @@ module _ {e : Sheet} {d : ℕ} (h : Handed e d) where
 
   -- an assignment from its sign on, which is taken without being looked at again
   set-meets : {p q r : Place} → after p ≡ q → (D : Derives e.text (Whole true) q r) (from sign link : ℕ)
-      → Meets e d p r (record { reads = taken p + cost D; nodes = records D + 1; need = need D }) Any (set_to (levels e d) from sign (assigns.To link))
+      → Meets e d p r (record { reads = taken p + cost D; nodes = records D + 1; need = need D }) Any (set_to (levels e d) from sign (Some link))
   unfolding set_to
   set-meets {q = q} {r = r} t D from sign link = fits (omega arith) (omega arith) (omega arith) (bumps t (by (eqb sign kind.Assign)))
     where
@@ -131,13 +131,13 @@ module _ {e : Sheet} {d : ℕ} (h : Handed e d) where
 
   -- behind a first left side: the others, the sign, and one value or as many
   unpack-rest : {n : ℕ} {p q r s : Place} (L : Derives e.text (Lefts n) p q) → Tok kind.Assign q r → (D : Derives e.text (Whole true) r s) → Not kind.Comma s → (from link : ℕ)
-      → Meets e d p s (record { reads = cost L + taken q + cost D; nodes = records L + records D + 1; need = max (need L) (need D) }) Any (multi_to (levels e d) from (assigns.To link))
+      → Meets e d p s (record { reads = cost L + taken q + cost D; nodes = records L + records D + 1; need = max (need L) (need D) }) Any (multi_to (levels e d) from (Some link))
   unfolding multi_to lefts
   unpack-rest L t D n from link = fits (omega arith) (omega arith) (omega arith) (next (lefts-meet L (row_with link) 1 refl) (λ kids _. expects t (next (exprs-meet h D) (λ value _. not-here _ n (row-record-meets _ _ _ _)))))
 
   module _ (few : length e.tokens < 2 ^ 32) where
     multi-rest : {n : ℕ} {p q r s t : Place} (L : Derives e.text (Lefts (suc n)) p q) → Tok kind.Assign q r → (D : Derives e.text (Whole true) r s) (R : Derives e.text (Rights (suc n)) s t) (from link : ℕ)
-        → Meets e d p t (record { reads = cost L + taken q + cost D + cost R; nodes = records L + records D + records R + 1; need = max (max (need L) (need D)) (need R) }) Any (multi_to (levels e d) from (assigns.To link))
+        → Meets e d p t (record { reads = cost L + taken q + cost D + cost R; nodes = records L + records D + records R + 1; need = max (max (need L) (need D)) (need R) }) Any (multi_to (levels e d) from (Some link))
     unfolding multi_to lefts rights
     multi-rest {n} L t D R from link = with-few few (λ short. let some = lefts-few L in fits (omega arith) (omega arith) (omega arith) (next (lefts-meet L (row_with link) 1 refl) (λ kids i. expects t (next (exprs-meet h D) (λ value _. here _ (rights-first R)
         (after_none (add_meets (uncounted kids) value) (λ begun j. let o = ap (λ z. z.count) j in next (rights-meet R kids.count begun (omega (arith, i, o, short, some)) (omega (arith, i, short, some))) (λ all _. close-meets _ _ _ _ _ _))))))))
@@ -175,7 +175,7 @@ module _ {e : Sheet} {d : ℕ} (h : Handed e d) where
       typed-assign-meets D a T b E = next-name _ D (λ link. chooses (sign_cases (levels e d) from (exprs.Name link)) _ a.here (typed-rest a T b E from link))
 
       -- a comma behind a first left side
-      several : {f : Form} {n : ℕ} {p q r t : Place} {c : Cost} (D : Derives e.text (Prec 1 true f) p q) → Assignable f → Derives e.text (Lefts (suc n)) q r → ((link : ℕ) → Meets e d q t c Any (multi_to (levels e d) from (assigns.To link)))
+      several : {f : Form} {n : ℕ} {p q r t : Place} {c : Cost} (D : Derives e.text (Prec 1 true f) p q) → Assignable f → Derives e.text (Lefts (suc n)) q r → ((link : ℕ) → Meets e d q t c Any (multi_to (levels e d) from (Some link)))
           → Meets e d p t (inside (cost_of D) ⊕ c) Any (assign_rule (levels e d) from)
       unfolding assign_rule multi_rule
       several D a L x = next-left _ D a (λ link. chooses (sign_cases (levels e d) from (exprs.Name link)) _ (lefts-first L).stands (x link)) (λ link. chooses (sign_cases (levels e d) from (exprs.NameMember link)) _ (lefts-first L).stands (x link))

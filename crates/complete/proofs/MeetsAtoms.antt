@@ -1,11 +1,11 @@
 -- Atoms: parse_expr_atom and parse_match_case. The first token tells the form.
+use Rattle.std.specs.Prelude.{None}
 use mathlib.Core.Path.{◌≡◌, refl}
 use mathlib.Core.List.{List}
 use Prim.Native.Nat.{ℕ}
 use native.Mathlib.Omega.{arith}
 use Rattle.kinds.specs.Number as kind
 use Rattle.cursor.specs.declared.Kids.{Kids}
-use Rattle.cursor.specs.declared.Ranged.TheVariants as ranged
 use Rattle.cursor.specs.Node as node
 use Rattle.cursor.specs.Sheet.{Sheet}
 use Rattle.cursor.specs.Rule.{Rule, ◌>>=◌, if_so, iterate}
@@ -113,10 +113,10 @@ module _ {e : Sheet} {d : ℕ} (h : Handed e d) where
   atoms-meet b (block-expr t E n D) = by_kind t.here (λ from. others (b.block-exprs t E n D from))
   atoms-meet b (list t D) = by_kind t.here (λ from. others (fits (omega arith) (omega arith) (omega arith) (bumps t.next (next (elements-meet h D no_kids) (λ i _. list-record-meets node.List from i)))))
   atoms-meet b (atom-literal D) = by-none (lit-free refl D) (others (fits (omega arith) (omega arith) (omega arith) (lit-meets D)))
-  atoms-meet b (fn-expr t D) = by_kind t.here (λ from. others (fits (omega arith) (omega arith) (omega arith) (bumps t.next (next (functions-meet h D from) (λ f _. fn-record-meets from ranged.Nowhere 0 f)))))
-  atoms-meet b (closure-expr D) = by_kind (starts D).stands (λ from. others (fits (omega arith) (omega arith) (omega arith) (next (functions-meet h D from) (λ f _. fn-record-meets from ranged.Nowhere 0 f))))
+  atoms-meet b (fn-expr t D) = by_kind t.here (λ from. others (fits (omega arith) (omega arith) (omega arith) (bumps t.next (next (functions-meet h D from) (λ f _. fn-record-meets from None 0 f)))))
+  atoms-meet b (closure-expr D) = by_kind (starts D).stands (λ from. others (fits (omega arith) (omega arith) (omega arith) (next (functions-meet h D from) (λ f _. fn-record-meets from None 0 f))))
   atoms-meet b (do-expr t D) = by_kind t.here (λ from. others (fits (omega arith) (omega arith) (omega arith)
-      (bumps t.next (next (block-meets h D) (λ body _. next (close-meets node.Do from 0 0 0 body) (λ f _. fn-record-meets from ranged.Nowhere 0 f))))))
+      (bumps t.next (next (block-meets h D) (λ body _. next (close-meets node.Do from 0 0 0 body) (λ f _. fn-record-meets from None 0 f))))))
   atoms-meet b (if-expr t D E F) = by_kind t.here (λ from. others (fits (omega arith) (omega arith) (omega arith) (bumps t.next (next (and-block-meets h D E no_kids) (λ kids _. alternate-meets F from kids)))))
   atoms-meet b (match-expr t D u E) = by_kind t.here (λ from. others (fits (omega arith) (omega arith) (omega arith)
       (bumps t.next (next (exprs-meet h D) (λ link _. expects u (next (cases_meet E (row_of link)) (λ row _. close-meets node.Match from 0 0 _ row.first)))))))

@@ -1,4 +1,5 @@
 -- Operators of a level or higher: parse_expr_precedence.
+use Rattle.std.specs.Prelude.{Some, None, Option}
 use mathlib.Core.Path.{◌≡◌, refl, sym, ap, ◌∙◌, subst}
 use mathlib.Core.List.{List}
 use mathlib.Core.Bool.{Bool, true, false, true≢false}
@@ -6,8 +7,7 @@ use Prim.Native.Nat.{ℕ, ◌+◌, ◌<◌, ◌≤◌}
 use native.Mathlib.Omega.{arith}
 use borrow.Author.Tests.{ne_eqb, lt-ltb, le-ltb}
 use Rattle.kinds.specs.Number as kind
-use Rattle.kinds.specs.declared.operator.Operator.{Operator}
-use Rattle.kinds.specs.declared.operator.Operator.TheVariants as operators
+use Rattle.kinds.specs.declared.operator.BinOp.{BinOp}
 use Rattle.kinds.specs.Operators.{binary_of, precedence_of, level_by, level_of}
 use Rattle.cursor.specs.declared.State.{State}
 use Rattle.cursor.specs.declared.Span.{Span}
@@ -16,7 +16,6 @@ use Rattle.cursor.specs.Sheet.{Sheet, kind_at}
 use Rattle.cursor.specs.Rule.{World, ◌>>◌, Next, iterate}
 use Rattle.cursor.specs.Tokens.{bump}
 use Rattle.parts.specs.declared.values.Expr.{Expr}
-use Rattle.parts.specs.declared.steps.Checked.TheVariants as checked
 use Rattle.parts.specs.Values.{link_of}
 use Rattle.parts.specs.Steps.{checked_type, type_checked, type_check_at, type_check}
 use Rattle.rules.specs.Precedence.{operated, infix_by, infix_turn, precedence}
@@ -41,16 +40,16 @@ use Rattle.complete.proofs.MeetsBlocks.{Handed, Braces}
 use Rattle.complete.proofs.MeetsUnary.{unaries-meet}
 
 -- the end of input names no type
-untyped : (text : List ℕ) (r : Span) {word : ℕ} → checked_type text kind.Eof r ≡ checked.Type word → ⊥
+untyped : (text : List ℕ) (r : Span) {word : ℕ} → checked_type text kind.Eof r ≡ Some word → ⊥
 unfolding checked_type
 untyped text r q = true≢false (clash q)
   where
-    clash : {word : ℕ} → checked.Unknown ≡ checked.Type word → true ≡ false
+    clash : {word : ℕ} → None ≡ Some word → true ≡ false
     clash q = cc
 
 -- behind `is`: one token that names a type
-module _ (e : Sheet) (from : ℕ) (x : Expr) {p : Place} {word : ℕ} (known : checked_type e.text (kind_of p) (span_of p) ≡ checked.Type word) where
-  type-is : (s : State) (w : World) → Settled e.tokens s → place_at e.tokens s ≡ p → type_check e from x s w ≡ type_checked e from x (span_of p) (checked.Type word) s w
+module _ (e : Sheet) (from : ℕ) (x : Expr) {p : Place} {word : ℕ} (known : checked_type e.text (kind_of p) (span_of p) ≡ Some word) where
+  type-is : (s : State) (w : World) → Settled e.tokens s → place_at e.tokens s ≡ p → type_check e from x s w ≡ type_checked e from x (span_of p) (Some word) s w
   unfolding type_check type_check_at
   type-is s w h z =
       let k : kind_at e.tokens s.at ≡ kind_of p = sym (kind-place e.tokens s h) ∙ ap kind_of z in
@@ -68,15 +67,15 @@ module _ {e : Sheet} {d : ℕ} (n : ℕ) (lambda : Bool) (from : ℕ) (x : Expr)
   turned {q = q} {c = c} {P = P} f y = record { runs = λ s w h z. subst (λ k. EndsAt e d c q P s w (infix_by (levels e d) from n lambda x k (binary_of k) s w)) (sym f ∙ sym (ap kind_of z) ∙ kind-place e.tokens s h) (y.runs s w h z) }
 
   -- it stops where no operator of the level or higher stands, and goes on from behind one
-  stops-by : {f : Form} {p : Place} (k : ℕ) (o : Operator) → level_by o < n → form_of x ≡ f → Meets e d p p nothing (Stops (λ z. form_of z ≡ f)) (infix_by (levels e d) from n lambda x k o)
+  stops-by : {f : Form} {p : Place} (k : ℕ) (o : Option BinOp) → level_by o < n → form_of x ≡ f → Meets e d p p nothing (Stops (λ z. form_of z ≡ f)) (infix_by (levels e d) from n lambda x k o)
   unfolding infix_by
-  stops-by k (operators.Binary op) l i = yes-so _ (lt-ltb (precedence_of op) n l) (gives (stops i))
-  stops-by k operators.Nothing l i = gives (stops i)
+  stops-by k (Some op) l i = yes-so _ (lt-ltb (precedence_of op) n l) (gives (stops i))
+  stops-by k None l i = gives (stops i)
 
-  goes_by : {p q : Place} {c : Cost} {P : Next Expr → Type 0} (k : ℕ) (o : Operator) → 0 < n → n ≤ level_by o → Meets e d p q c P (bump e >> operated (levels e d) from lambda x k (level_by o)) → Meets e d p q c P (infix_by (levels e d) from n lambda x k o)
+  goes_by : {p q : Place} {c : Cost} {P : Next Expr → Type 0} (k : ℕ) (o : Option BinOp) → 0 < n → n ≤ level_by o → Meets e d p q c P (bump e >> operated (levels e d) from lambda x k (level_by o)) → Meets e d p q c P (infix_by (levels e d) from n lambda x k o)
   unfolding infix_by
-  goes_by k (operators.Binary op) i l y = not_so _ (le-ltb (precedence_of op) n l) y
-  goes_by k operators.Nothing i l y = absurd (omega arith)
+  goes_by k (Some op) i l y = not_so _ (le-ltb (precedence_of op) n l) y
+  goes_by k None i l y = absurd (omega arith)
 
 module _ {e : Sheet} {d : ℕ} (h : Handed e d) where
   -- a right operand that starts one level higher

@@ -1,4 +1,5 @@
 -- Calls and members: parse_expr_primary, an atom with all that follow.
+use Rattle.std.specs.Prelude.{None}
 use mathlib.Core.Path.{◌≡◌, refl, subst}
 use mathlib.Core.Bool.{Bool, true, false}
 use Prim.Native.Nat.{ℕ, ◌+◌, max}
@@ -6,9 +7,7 @@ use native.Mathlib.Omega.{arith}
 use borrow.Author.Tests.{eqb-false}
 use Rattle.kinds.specs.Number as kind
 use Rattle.cursor.specs.Node as node
-use Rattle.cursor.specs.declared.Ranged.{Ranged}
-use Rattle.cursor.specs.declared.Ranged.TheVariants as ranged
-use Rattle.cursor.specs.Sheet.{Sheet}
+use Rattle.cursor.specs.Sheet.{Ranged, Sheet}
 use Rattle.cursor.specs.Rule.{Rule, Next, iterate}
 use Rattle.cursor.specs.Checks.{choose}
 use Rattle.parts.specs.declared.values.Expr.{Expr}
@@ -96,7 +95,7 @@ module _ {e : Sheet} {d : ℕ} (h : Handed e d) where
   -- calls and members behind an expression
   posts-meet : {lambda : Bool} {f g : Form} {p q : Place} (D : Derives e.text (Posts lambda f g) p q) (from : ℕ) (x : Expr) → form_of x ≡ f → Meets e d p q (cost_of D) (λ z. form_of z ≡ g) (iterate e (postfix_turn (levels e d) from lambda) x)
   unfolding postfix_turn call_rule access no_member among costs records need
-  posts-meet (no-post (from_all a (from_all b o)) l) from x i = turn-stop _ _ (eats-not _ a (after_none (no-lambda l) (λ t j. not_so _ j (ranges-not _ b (chooses_none (member_cases (levels e d) from ranged.Nowhere x) o (gives (stops i)))))))
+  posts-meet (no-post (from_all a (from_all b o)) l) from x i = turn-stop _ _ (eats-not _ a (after_none (no-lambda l) (λ t j. not_so _ j (ranges-not _ b (chooses_none (member_cases (levels e d) from None x) o (gives (stops i)))))))
   posts-meet {lambda} (call a D l E) from x i = fits (omega arith) (omega arith) (omega arith)
       (turn_more (postfix-turn-takes e d from lambda) (maps goes-as (eats _ a (next (arguments-meet h D (row_of (link_of x))) (λ r _. after_none (no-lambda l) (λ t j. not_so _ j (call-record-meets from r.kids 0)))))) (λ y j. posts-meet E from y j))
   posts-meet (call-lambda a D F E) from x i = fits (omega arith) (omega arith) (omega arith) (turn_more (postfix-turn-takes e d from true) (maps goes-as (eats _ a (lambda-call D F from x))) (λ y j. posts-meet E from y j))
@@ -104,7 +103,7 @@ module _ {e : Sheet} {d : ℕ} (h : Handed e d) where
       (turn_more (postfix-turn-takes e d from true) (maps goes-as (eats-not _ (elsewhere kind.OpenParen refl (starts D)) (after_none (a-lambda (starts D)) (λ t j. yes-so _ j (next (blocks-meet h D node.Closure) (λ c _. call-record-meets from (row_of (link_of x)) c)))))) (λ y j. posts-meet E from y j))
   posts-meet {lambda} (member D E) from x i = fits (omega arith) (omega arith) (omega arith)
       (turn_more (postfix-turn-takes e d from lambda) (maps goes-as (eats-not _ (apart kind.OpenParen (starts D) refl) (after_none (unbraced lambda (apart kind.OpenBrace (starts D) refl)) (λ t j. not_so _ j (ranges-not _ (apart kind.Question (starts D) refl)
-      (member-meets from ranged.Nowhere x _ D (λ k link. member-record-meets from k link (of-form x i)))))))) (λ y j. posts-meet E from y j))
+      (member-meets from None x _ D (λ k link. member-record-meets from k link (of-form x i)))))))) (λ y j. posts-meet E from y j))
   posts-meet {lambda} (safe-member a D E) from x i = fits (omega arith) (omega arith) (omega arith)
       (turn_more (postfix-turn-takes e d from lambda) (maps goes-as (eats-not _ (elsewhere kind.OpenParen refl (at-token a)) (after_none (unbraced lambda (elsewhere kind.OpenBrace refl (at-token a))) (λ t j. not_so _ j
       (ranges _ (eqb-false kind.Question kind.Eof refl) a (member-meets from _ x _ D (λ k link. safe-record-meets from _ k x link))))))) (λ y j. posts-meet E from y j))

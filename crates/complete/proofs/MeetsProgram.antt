@@ -10,7 +10,7 @@ use Rattle.cursor.specs.declared.State.{State}
 use Rattle.cursor.specs.declared.Kids.{Kids}
 use Rattle.cursor.specs.Sheet.{Sheet}
 use Rattle.cursor.proofs.RecordPaths.{room_for}
-use Rattle.cursor.specs.Rule.{World, refusal, refused, Out, done, failed, ◌>>=◌}
+use Rattle.cursor.specs.Rule.{World, refused, Out, done, failed, ◌>>=◌}
 use Rattle.rules.specs.Levels.{levels, program_record, program}
 use Rattle.grammar.specs.Places.{Place, before, opening}
 use Rattle.grammar.specs.Follows.{Follows}
@@ -41,7 +41,7 @@ pub record Found (e : Sheet) (d : ℕ) (f : Follows e.text e.tokens) (w : World)
 -- how the reading of a sheet ends that follows the grammar, with d levels and what the buffers hold
 pub data Finds (e : Sheet) (d : ℕ) (f : Follows e.text e.tokens) (w : World) : Out ℕ → Type 0 where
   finds : {s1 : State} {w1 : World} {link : ℕ} → Found e d f w s1 → Finds e d f w (done s1 w1 link)
-  lacks : {n : ℕ} → Lacks e d (sheet_cost f) outset w n → Finds e d f w (failed (refused (refusal n)))
+  lacks : {n : ℕ} → Lacks e d (sheet_cost f) outset w n → Finds e d f w (failed (refused n))
 
 module _ {e : Sheet} {d : ℕ} where
   program-record-meets : {p : Place} (from : ℕ) (row : Kids) → Meets e d p p building Any (program_record from row)

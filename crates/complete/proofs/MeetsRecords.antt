@@ -1,11 +1,10 @@
 -- The records of expressions over what was read of them: each costs its records, and the answer's form is told where a rule asks for it.
+use Rattle.std.specs.Prelude.{Some, None}
 use mathlib.Core.Bool.{Bool}
 use Prim.Native.Nat.{ℕ, zero, suc}
 use Rattle.cursor.specs.declared.Kids.{Kids}
 use Rattle.cursor.specs.declared.Span.{Span}
-use Rattle.cursor.specs.declared.Ranged.{Ranged}
-use Rattle.cursor.specs.declared.Ranged.TheVariants as ranged
-use Rattle.cursor.specs.Sheet.{Sheet}
+use Rattle.cursor.specs.Sheet.{Ranged, Sheet}
 use Rattle.types.specs.declared.items.Items.{Items as Row}
 use Rattle.parts.specs.declared.values.Called.{Called}
 use Rattle.parts.specs.declared.values.Expr.{Expr}
@@ -77,16 +76,16 @@ module _ {e : Sheet} {d : ℕ} {p : Place} where
   unfolding call_record
   call-record-meets from kids lambda = adds-some _ _ (λ all. before-none (close-meets _ from _ _ _ _) (λ link _. gives (goes a_call)))
 
-  pub member-record-meets : {f : Form} {x : Expr} (from k link : ℕ) → OfForm f x → Meets e d p p building (Goes (OfForm (member_of f))) (member_record from ranged.Nowhere k x link)
+  pub member-record-meets : {f : Form} {x : Expr} (from k link : ℕ) → OfForm f x → Meets e d p p building (Goes (OfForm (member_of f))) (member_record from None k x link)
   unfolding member_record
   member-record-meets {f} {x} from k link h = adds _ _ (λ one. adds-some _ _ (λ all. before-none (close-meets _ from _ _ _ _) (λ m _. gives (goes (formed m h)))))
     where
-      formed : {f : Form} {x : Expr} (m : ℕ) → OfForm f x → OfForm (member_of f) (member_expr x ranged.Nowhere m)
+      formed : {f : Form} {x : Expr} (m : ℕ) → OfForm f x → OfForm (member_of f) (member_expr x None m)
       formed m a-name = a-name-member
       formed m a-name-member = another
       formed m a_call = another
       formed m another = another
 
-  pub safe-record-meets : (from : ℕ) (r : Span) (k : ℕ) (x : Expr) (link : ℕ) → Meets e d p p building (Goes (OfForm Other)) (member_record from (ranged.At r) k x link)
+  pub safe-record-meets : (from : ℕ) (r : Span) (k : ℕ) (x : Expr) (link : ℕ) → Meets e d p p building (Goes (OfForm Other)) (member_record from (Some r) k x link)
   unfolding member_record
   safe-record-meets from r k x link = adds _ _ (λ one. adds-some _ _ (λ all. before-none (close-meets _ from _ _ _ _) (λ m _. gives (goes another))))

@@ -1,4 +1,5 @@
 -- What cursor's rules meet: the rules alone, and as steps before the rest of a rule, as its text has them.
+use Rattle.std.specs.Prelude.{Some, None}
 use mathlib.Core.Path.{◌≡◌, refl, sym, ap, ◌∙◌, subst}
 use mathlib.Core.List.{List, [], ◌∷◌}
 use mathlib.Core.Bool.{Bool, true, false}
@@ -11,9 +12,7 @@ use Rattle.kinds.specs.Number as kind
 use Rattle.cursor.specs.declared.State.{State}
 use Rattle.cursor.specs.declared.Kids.{Kids}
 use Rattle.cursor.specs.declared.Label.{Label}
-use Rattle.cursor.specs.declared.Ranged.{Ranged}
-use Rattle.cursor.specs.declared.Ranged.TheVariants as ranged
-use Rattle.cursor.specs.Sheet.{Sheet, count, kind_at}
+use Rattle.cursor.specs.Sheet.{Sheet, count, kind_at, Ranged}
 use Rattle.cursor.specs.Rule.{World, Out, Rule, ◌>>=◌, ◌>>◌, if_so, iterate}
 use Rattle.cursor.specs.Tokens.{past_trivia, eat_trivia, bump, eol_turn, eat_eol}
 use Rattle.cursor.specs.Checks.{live_room, want, check, eat, unexpected, expect, eat_range, Case, ◌⇒◌, choose}
@@ -116,16 +115,16 @@ module _ {e : Sheet} {d : ℕ} where
     unfolding expect
     expect-fails n = fails-fit (omega arith) (omega arith) (omega arith) (fails-later {b = nothing} (eat-not n) (λ b f. rw f unexpected-fails))
 
-    pub range-yes : {q : Place} → (k ≡ kind.Eof → ⊥) → Tok k p q → Meets e d p q (reading (taken p)) (λ r. r ≡ ranged.At (span_of p)) (eat_range e k)
+    pub range-yes : {q : Place} → (k ≡ kind.Eof → ⊥) → Tok k p q → Meets e d p q (reading (taken p)) (λ r. r ≡ Some (span_of p)) (eat_range e k)
     unfolding eat_range
     range-yes n t = record {
       runs = λ s w h z. (after_none (check-yes (at-token t)) (λ b f. yes-so _ f (before-none (bump_meets t.next)
-          (λ _ _. gives {P = λ r. r ≡ ranged.At (span_of p)} (range-place e s k n h (ap kind_of z ∙ t.here) ∙ ap (λ x. ranged.At (span_of x)) z))))).runs s w h z;
+          (λ _ _. gives {P = λ r. r ≡ Some (span_of p)} (range-place e s k n h (ap kind_of z ∙ t.here) ∙ ap (λ x. Some (span_of x)) z))))).runs s w h z;
     }
 
-    pub range-not : Not k p → Meets e d p p nothing (λ r. r ≡ ranged.Nowhere) (eat_range e k)
+    pub range-not : Not k p → Meets e d p p nothing (λ r. r ≡ None) (eat_range e k)
     unfolding eat_range
-    range-not n = record { runs = λ s w h z. (after_none (check-not n) (λ b f. not_so _ f (gives {P = λ r. r ≡ ranged.Nowhere} refl))).runs s w h z }
+    range-not n = record { runs = λ s w h z. (after_none (check-not n) (λ b f. not_so _ f (gives {P = λ r. r ≡ None} refl))).runs s w h z }
 
   -- records: one more, or one more child in a row, or other flags
   pub append-meets : {p : Place} (l : Label) (first : ℕ) → Meets e d p p building Any (append l first)
@@ -201,10 +200,10 @@ module _ {e : Sheet} {B : Type 0} {d : ℕ} {p v : Place} {c : Cost} {Q : B → 
 
   -- what follows is written first, as `_` likewise
   module _ {k : ℕ} (f : Ranged → Rule B) where
-    pub ranges : {q : Place} → (k ≡ kind.Eof → ⊥) → Tok k p q → Meets e d q v c Q (f (ranged.At (span_of p))) → Meets e d p v (reading (taken p) ⊕ c) Q (eat_range e k >>= f)
+    pub ranges : {q : Place} → (k ≡ kind.Eof → ⊥) → Tok k p q → Meets e d q v c Q (f (Some (span_of p))) → Meets e d p v (reading (taken p) ⊕ c) Q (eat_range e k >>= f)
     ranges n h x = next (range-yes k n h) (λ r g. rw g x)
 
-    pub ranges-not : Not k p → Meets e d p v c Q (f ranged.Nowhere) → Meets e d p v c Q (eat_range e k >>= f)
+    pub ranges-not : Not k p → Meets e d p v c Q (f None) → Meets e d p v c Q (eat_range e k >>= f)
     ranges-not h x = after_none (range-not k h) (λ r g. rw g x)
 
   -- a chain of checks comes to the rule for the kind that stands here: `rule_for` computes where that is a numeral. What is left is written as `_` likewise

@@ -1,4 +1,5 @@
 -- Statements. At a `fn` a named function is attempted; where the function has no name the attempt fails behind that one token.
+use Rattle.std.specs.Prelude.{Some, None}
 use mathlib.Core.Path.{◌≡◌, refl}
 use mathlib.Core.List.{[], ◌∷◌}
 use mathlib.Core.Bool.{true, false}
@@ -7,10 +8,8 @@ use native.Mathlib.Omega.{arith}
 use lib.ListN.{length}
 use Rattle.kinds.specs.Number as kind
 use Rattle.cursor.specs.declared.State.{State}
-use Rattle.cursor.specs.declared.Ranged.{Ranged}
-use Rattle.cursor.specs.declared.Ranged.TheVariants as ranged
+use Rattle.cursor.specs.Sheet.{Sheet, range_at, Ranged}
 use Rattle.cursor.specs.Node as node
-use Rattle.cursor.specs.Sheet.{Sheet, range_at}
 use Rattle.cursor.specs.Rule.{World}
 use Rattle.cursor.specs.Checks.{choose}
 use Rattle.types.specs.Lits.{ident_at, ident}
@@ -47,8 +46,8 @@ module _ {e : Sheet} {d : ℕ} {p : Place} where
   ident-fails n = record { fails = λ s w h z. go s w h z (range_at e.tokens s.at) }
     where
       go : (s : State) (w : World) → Settled e.tokens s → place_at e.tokens s ≡ p → (r : Ranged) → FailsAt e d nothing s w (ident_at e r s w)
-      go s w h z (ranged.At r) = (fails-first _ (expect-fails kind.Ident n)).fails s w h z
-      go s w h z ranged.Nowhere = unexpected-fails.fails s w h z
+      go s w h z (Some r) = (fails-first _ (expect-fails kind.Ident n)).fails s w h z
+      go s w h z None = unexpected-fails.fails s w h z
 
 module _ {e : Sheet} {d : ℕ} {p : Place} where
   -- an attempt at a named function fails behind `fn` where a parenthesis stands
@@ -89,9 +88,9 @@ module _ {e : Sheet} {d : ℕ} (h : Handed e d) where
     -- parse_stmt
     pub stmts-meet : {p q : Place} (D : Derives e.text Stmt p q) → Meets e d p q (cost_of D) Any (stmt (levels e d))
     unfolding stmt plain_rule function_stmt glo_assign costs records need
-    stmts-meet (fn-stmt a D E) = fits (omega arith) (omega arith) (omega arith) (here _ (at-token a) (kept-attempt (begins (λ from. named-meets a D E from ranged.Nowhere)) (λ link _. answers) (plain_rule (levels e d))))
+    stmts-meet (fn-stmt a D E) = fits (omega arith) (omega arith) (omega arith) (here _ (at-token a) (kept-attempt (begins (λ from. named-meets a D E from None)) (λ link _. answers) (plain_rule (levels e d))))
     stmts-meet (import-stmt a D) = fits (omega arith) (omega arith) (omega arith) (not-here _ (elsewhere kind.Fn refl (at-token a)) (begins (λ from. chooses (stmt_cases (levels e d) from) _ a.here (import-meets a D from))))
-    stmts-meet (effect-stmt D) = fits (omega arith) (omega arith) (omega arith) (not-here _ (elsewhere kind.Fn refl (starts D)) (begins (λ from. chooses (stmt_cases (levels e d) from) _ (starts D).stands (effect-meets D from ranged.Nowhere))))
+    stmts-meet (effect-stmt D) = fits (omega arith) (omega arith) (omega arith) (not-here _ (elsewhere kind.Fn refl (starts D)) (begins (λ from. chooses (stmt_cases (levels e d) from) _ (starts D).stands (effect-meets D from None))))
     stmts-meet (glo-fn a b D E) = fits (omega arith) (omega arith) (omega arith)
         (not-here _ (elsewhere kind.Fn refl (at-token a)) (begins (λ from. chooses (stmt_cases (levels e d) from) _ a.here (glo-meets from a.next (λ g. chooses (glo_cases (levels e d) from g) _ b.here (named-meets b D E from g))))))
     stmts-meet (glo-effect a D) = fits (omega arith) (omega arith) (omega arith)

@@ -1,4 +1,5 @@
 -- What `{` opens where an expression may begin: keys and properties, tables and blocks. Where a block stands the attempt at a key fails, behind what Leading tells.
+use Rattle.std.specs.Prelude.{Some, None}
 use mathlib.Core.Path.{◌≡◌, refl, sym, ap, ◌∙◌}
 use mathlib.Core.Bool.{Bool, true, false, true≢false}
 use Prim.Native.Nat.{ℕ, ◌+◌, max}
@@ -6,10 +7,8 @@ use native.Mathlib.Omega.{arith}
 use Rattle.kinds.specs.Number as kind
 use Rattle.cursor.specs.declared.State.{State}
 use Rattle.cursor.specs.declared.Kids.{Kids}
-use Rattle.cursor.specs.declared.Ranged.{Ranged}
-use Rattle.cursor.specs.declared.Ranged.TheVariants as ranged
+use Rattle.cursor.specs.Sheet.{Sheet, kind_at, range_at, Ranged}
 use Rattle.cursor.specs.declared.Span.{Span}
-use Rattle.cursor.specs.Sheet.{Sheet, kind_at, range_at}
 use Rattle.cursor.specs.Rule.{World, Rule, if_so}
 use Rattle.types.specs.declared.lits.Literal.{Literal}
 use Rattle.types.specs.declared.lits.Literal.TheVariants as literals
@@ -52,8 +51,8 @@ module _ {e : Sheet} {d : ℕ} {p : Place} where
       by s w h z k f r literals.Nothing g = unexpected-fails.fails s w h z
 
       go : (s : State) (w : World) → Settled e.tokens s → place_at e.tokens s ≡ p → among (kind_at e.tokens s.at) lits ≡ false → (r : Ranged) → FailsAt e d nothing s w (lit_at e (kind_at e.tokens s.at) r s w)
-      go s w h z f (ranged.At r) = by s w h z (kind_at e.tokens s.at) f r _ refl
-      go s w h z f ranged.Nowhere = unexpected-fails.fails s w h z
+      go s w h z f (Some r) = by s w h z (kind_at e.tokens s.at) f r _ refl
+      go s w h z f None = unexpected-fails.fails s w h z
 
   -- the colon of a key in parentheses and its record
   colon-meets : {q : Place} → Tok kind.Colon p q → (from link : ℕ) → Meets e d p q (reading (taken p) ⊕ building) Any (paren_key_at e from link)

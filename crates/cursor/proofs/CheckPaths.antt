@@ -1,13 +1,14 @@
 -- Each way through the rules that test what stands here.
-use Rattle.std.proofs.Common.{◌≡◌, ℕ, zero, suc, ◌+◌, ◌<◌, ◌≤◌, Bool, true, false, leb, List, [], ◌∷◌, length, get_or, drop, set, sym, refl, ap, ◌∙◌, add-one, arith, drop-cons, le-ltb, lt-ltb, eq-eqb, ne_eqb, le-leb, leb-false, leb-true}
+use Rattle.std.specs.Prelude.{None}
+use Rattle.std.proofs.Common.{◌≡◌, ℕ, zero, suc, ◌+◌, ◌-◌, ◌<◌, ◌≤◌, Bool, true, false, leb, List, [], ◌∷◌, length, get_or, drop, set, sym, refl, ap, ◌∙◌, add-one, arith, drop-cons, le-ltb, lt-ltb, eq-eqb, ne_eqb, le-leb, leb-false, leb-true}
 use mathlib.Core.Bool.{false≢true}
 use lib.Seq.{drop-nil}
+use native.Mathlib.Decide.{dec_le}
 use borrow.Author.Tests.{lt-leb}
 use Rattle.cursor.specs.declared.State.{State}
-use Rattle.cursor.specs.declared.Ranged.{Ranged}
-use Rattle.cursor.specs.declared.Ranged.TheVariants as ranged
-use Rattle.cursor.specs.Sheet.{Sheet, kind_at, range_at}
-use Rattle.cursor.specs.Rule.{World, Stop, fault, refusal, refused, done, failed}
+use Rattle.cursor.specs.declared.Span.{Span}
+use Rattle.cursor.specs.Sheet.{Sheet, kind_at, range_at, Ranged}
+use Rattle.cursor.specs.Rule.{World, Stop, fault, refused, done, failed}
 use Rattle.cursor.specs.Buffer.{put}
 use Rattle.cursor.specs.Tokens.{bump}
 use Rattle.cursor.specs.Checks.{live_room, room_for, full_at, want, check, eat, unexpected_at, unexpected, expect, eat_range, pick_from, found_at}
@@ -26,7 +27,7 @@ module _ (e : Sheet) (k : ℕ) (s : State) (w : World) where
   unfolding check
   check-yes p = rw (eq-eqb _ _ p, check)
 
-  pub check-full : (kind_at e.tokens s.at ≡ k → ⊥) → live_room ≤ s.live → check e k s w ≡ failed (refused (refusal 11))
+  pub check-full : (kind_at e.tokens s.at ≡ k → ⊥) → live_room ≤ s.live → check e k s w ≡ failed (refused 11)
   unfolding check want
   check-full p q = rw (ne_eqb _ _ p, check) (rw (le-ltb _ _ q, want))
 
@@ -72,7 +73,7 @@ module _ (e : Sheet) (k : ℕ) (s : State) (w : World) where
   unfolding expect unexpected
   expect-no p = rw p
 
-  pub range-no : {s1 : State} {w1 : World} → check e k s w ≡ done s1 w1 false → eat_range e k s w ≡ done s1 w1 ranged.Nowhere
+  pub range-no : {s1 : State} {w1 : World} → check e k s w ≡ done s1 w1 false → eat_range e k s w ≡ done s1 w1 None
   unfolding eat_range
   range-no p = rw p
 
@@ -82,9 +83,9 @@ module _ (e : Sheet) (k : ℕ) (s : State) (w : World) where
 
 -- the error of an unexpected token, from the kind and the range of the current one
 module _ (e : Sheet) (s : State) where
-  pub unexpected-is : {found : ℕ} {r : Ranged} → found ≡ kind_at e.tokens s.at → range_at e.tokens s.at ≡ r → unexpected_at e s ≡ record { class = 0; found = found; span = found_at r s.prev; listed = 1 }
+  pub unexpected-is : {found : ℕ} {r : Ranged} {x : Span} → found ≡ kind_at e.tokens s.at → range_at e.tokens s.at ≡ r → x ≡ found_at r s.prev → unexpected_at e s ≡ record { class = 0; found = found; span = x; listed = true }
   unfolding unexpected_at
-  unexpected-is p q = rw (p, q)
+  unexpected-is p q t = rw (p, q, t)
 
 pub drop_all : (ks : List ℕ) (i : ℕ) → length ks ≤ i → drop i ks ≡ []
 drop_all [] i h = drop-nil i
@@ -96,21 +97,17 @@ pub roomy-within : (told more : ℕ) → room_for told more ≡ true → told + 
 unfolding room_for
 roomy-within told more p = leb-true _ _ p
 
-pub room-for : (told more : ℕ) → told + more ≤ live_room → true ≡ room_for told more
+pub room-tested : (told more : ℕ) → more ≤ live_room → leb told (live_room - more) ≡ room_for told more
 unfolding room_for
-room-for told more p = sym (le-leb _ _ p)
+room-tested told more p = by (dec_le told (live_room - more))
+  where
+    by : Dec (told ≤ live_room - more) → leb told (live_room - more) ≡ leb (told + more) live_room
+    by (yes q) = le-leb told (live_room - more) q ∙ sym (le-leb (told + more) live_room (omega arith))
+    by (no q) = let h : live_room - more < told = omega arith in let k : live_room < told + more = omega arith in lt-leb _ _ h ∙ sym (lt-leb _ _ k)
 
-pub no-room-for : (told more : ℕ) → live_room < told + more → false ≡ room_for told more
+pub no-room-at-all : (told more : ℕ) → live_room < more → leb more live_room ≡ room_for told more
 unfolding room_for
-no-room-for told more p = sym (lt-leb _ _ p)
-
-pub full-roomy : (roomy : Bool) (told : ℕ) → roomy ≡ true → false ≡ full_at roomy told
-unfolding full_at
-full-roomy roomy told p = rw p
-
-pub full-tight : (roomy : Bool) (told : ℕ) → roomy ≡ false → leb live_room told ≡ full_at roomy told
-unfolding full_at
-full-tight roomy told p = rw p
+no-room-at-all told more p = let k : live_room < told + more = omega arith in lt-leb _ _ p ∙ sym (lt-leb _ _ k)
 
 pub full_at_lem : (roomy : Bool) (told : ℕ) → full_at roomy told ≡ true → live_room ≤ told
 unfolding full_at
@@ -133,7 +130,7 @@ module _ (e : Sheet) (ks : List ℕ) (i : ℕ) (s : State) (w : World) where
     unfolding pick_from
     pick-here q = rw (drop-cons ks i 0 p) (rw (check-yes e _ s w q))
 
-    pub pick-full : (kind_at e.tokens s.at ≡ get_or ks i 0 → ⊥) → live_room ≤ s.live → pick_from e (drop i ks) i s w ≡ failed (refused (refusal 11))
+    pub pick-full : (kind_at e.tokens s.at ≡ get_or ks i 0 → ⊥) → live_room ≤ s.live → pick_from e (drop i ks) i s w ≡ failed (refused 11)
     unfolding pick_from
     pick-full q r = rw (drop-cons ks i 0 p) (rw (check-full e _ s w q r))
 

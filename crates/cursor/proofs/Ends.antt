@@ -1,14 +1,13 @@
 -- How a rule ends: P holds where it is done, F where it fails by a fault; nothing is owed where the whole reading is refused.
-use Rattle.std.proofs.Common.{◌≡◌, Bool, true, false, refl, subst}
+use Rattle.std.proofs.Common.{◌≡◌, ℕ, Bool, true, false, refl, subst}
 use Rattle.cursor.specs.declared.State.{State}
 use Rattle.cursor.specs.declared.Fault.{Fault}
-use Rattle.cursor.specs.declared.Failure.{Failure}
 use Rattle.cursor.specs.Rule.{World, fault, refused, Out, done, failed, bind, or_else}
 
 pub data Ends {A : Type 0} (P : State → World → A → Type 0) (F : State → World → Fault → Type 0) : Out A → Type 0 where
   well : {s : State} {w : World} {a : A} → P s w a → Ends P F (done s w a)
   ill : {s : State} {w : World} {f : Fault} → F s w f → Ends P F (failed (fault s w f))
-  cut : {f : Failure} → Ends P F (failed (refused f))
+  cut : {n : ℕ} → Ends P F (failed (refused n))
 
 -- nothing is owed of a fault
 abbrev pub Any : State → World → Fault → Type 0

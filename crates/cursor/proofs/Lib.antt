@@ -2,13 +2,16 @@ pub mod CheckPaths
 pub mod ChainPaths
 pub mod Chosen
 pub mod Ends
-pub mod Failures
+pub mod Exits
+pub mod Loans
 pub mod Loops
 pub mod RecordPaths
 pub mod TokenPaths
+pub mod Told
+pub mod Unique
+pub mod RuledOut
 pub mod Finished
 pub mod Writes
-pub mod Held
 pub mod Laws
 pub mod Meaning
 pub mod Once
@@ -21,6 +24,3 @@ pub mod Keeps
 pub mod Kept
 pub mod Spends
 pub mod Spent
-pub mod Told
-pub mod Unique
-pub mod RuledOut

@@ -1,5 +1,5 @@
 -- Each way through the rules that write records.
-use Rattle.std.proofs.Common.{◌≡◌, ℕ, zero, suc, ◌+◌, ◌-◌, ◌*◌, ◌/◌, ◌<◌, ◌≤◌, min, Bool, true, false, cond, eqb, List, length, get_or, set, sym, refl, ◌∙◌, le_of_lt, arith, le-ltb, lt-ltb, eq-eqb, ne_eqb, le-leb}
+use Rattle.std.proofs.Common.{◌≡◌, ℕ, zero, suc, ◌+◌, ◌-◌, ◌*◌, ◌/◌, ◌<◌, ◌≤◌, min, Bool, true, false, cond, List, length, get_or, set, sym, refl, ◌∙◌, le_of_lt, arith, le-ltb, lt-ltb, le-leb}
 use native.Mathlib.Nat.{min-eq_left, min-eq_right}
 use lib.Seq.{set_out}
 use borrow.Author.Tests.{lt-leb}
@@ -9,7 +9,7 @@ use Rattle.cursor.specs.declared.Kids.{Kids}
 use Rattle.cursor.specs.declared.Label.{Label}
 use Rattle.cursor.specs.Buffer.{put, copy}
 use Rattle.cursor.specs.Layout.{node_words, NEXT, FLAGS, cell, error_words, node_limit, error_limit, expected_limit}
-use Rattle.cursor.specs.Rule.{World, refusal, refused, done, failed}
+use Rattle.cursor.specs.Rule.{World, refused, done, failed}
 use Rattle.cursor.specs.Checks.{live_room}
 use Rattle.cursor.specs.Records.{word32, bit, write, with_nodes, append, add, reflag, list_length, write_error, log}
 
@@ -39,7 +39,7 @@ abbrev pub counted : State → State
 counted s = record { at = s.at; prev = s.prev; reads = s.reads; nodes = s.nodes + 1; errors = s.errors; wanted = s.wanted; live = s.live }
 
 module _ (l : Label) (first : ℕ) (s : State) (w : World) {room : ℕ} (r : room ≡ room_for w) where
-  pub append-full : room ≤ s.nodes → append l first s w ≡ failed (refused (refusal 7))
+  pub append-full : room ≤ s.nodes → append l first s w ≡ failed (refused 7)
   unfolding append
   append-full p = rw (le-ltb _ _ (rw r at p), append)
 
@@ -94,14 +94,14 @@ pub before : {n : ℕ} → (n ≡ 0 → ⊥) → n ≡ suc (n - 1)
 before p = omega arith
 
 module _ (f : Fault) (s : State) where
-  pub length-listed : {n : ℕ} → f.listed ≡ 1 → n ≡ min s.live live_room → n ≡ list_length f s
-  length-listed p q = q ∙ sym (rw (eq-eqb f.listed 1 p))
+  pub length-listed : {n : ℕ} → f.listed ≡ true → n ≡ min s.live live_room → n ≡ list_length f s
+  length-listed p q = q ∙ sym (rw p)
 
-  pub length-unlisted : (f.listed ≡ 1 → ⊥) → 0 ≡ list_length f s
-  length-unlisted p = sym (rw (ne_eqb f.listed 1 p))
+  pub length-unlisted : f.listed ≡ false → 0 ≡ list_length f s
+  length-unlisted p = sym (rw p)
 
   pub length-le : list_length f s ≤ live_room
-  length-le = by (eqb f.listed 1)
+  length-le = by f.listed
     where
       by : (b : Bool) → cond b (min s.live live_room) 0 ≤ live_room
       by true = omega arith
@@ -113,12 +113,12 @@ unfolding write_error put
 error-written xs i f from n = refl
 
 module _ (f : Fault) (s : State) (w : World) {room : ℕ} (r : room ≡ min (length w.errors / error_words) error_limit) where
-  pub log-full : room ≤ s.errors → log f s w ≡ failed (refused (refusal 8))
+  pub log-full : room ≤ s.errors → log f s w ≡ failed (refused 8)
   unfolding log
   log-full p = rw (le-ltb _ _ (rw r at p), log)
 
   module _ {n most : ℕ} (p : s.errors < room) (q : n ≡ list_length f s) (m : most ≡ min (length w.expected) expected_limit) where
-    pub log-crowded : most < s.wanted + n → log f s w ≡ failed (refused (refusal 8))
+    pub log-crowded : most < s.wanted + n → log f s w ≡ failed (refused 8)
     unfolding log
     log-crowded h = rw (lt-ltb _ _ (rw r at p), log) (rw (lt-leb _ _ (rw (m, q) at h)))
 

@@ -1,11 +1,10 @@
 -- Which rules of this crate leave fewer tokens (Spends), and when a token stands here.
+use Rattle.std.specs.Prelude.{Some, None}
 use Rattle.std.proofs.Common.{◌≡◌, ℕ, ◌+◌, ◌/◌, ◌<◌, Bool, true, false, eqb, ltb, List, [], ◌∷◌, length, sym, refl, ◌∙◌, arith, ltb-false, eqb-true}
 use borrow.Author.Tests.{eqb-false}
 use Rattle.kinds.specs.Number as kind
 use Rattle.cursor.specs.declared.State.{State}
-use Rattle.cursor.specs.declared.Ranged.{Ranged}
-use Rattle.cursor.specs.declared.Ranged.TheVariants as ranged
-use Rattle.cursor.specs.Sheet.{Sheet, count, kind_at}
+use Rattle.cursor.specs.Sheet.{Sheet, count, kind_at, Ranged}
 use Rattle.cursor.specs.Rule.{World, Out, Rule, ◌>>=◌, if_so}
 use Rattle.cursor.specs.Tokens.{bump}
 use Rattle.cursor.specs.Checks.{live_room, want, check, eat, expect, eat_range, unexpected, Case, ◌⇒◌, choose}
@@ -80,8 +79,8 @@ module _ {A : Type 0} {e : Sheet} {W : A → Type 0} where
 
 -- a range is there
 abbrev pub Found : Ranged → Type 0
-Found (ranged.At r) = Unit {0}
-Found ranged.Nowhere = ⊥
+Found (Some r) = Unit {0}
+Found None = ⊥
 
 module _ {e : Sheet} where
   pub bump-feeds : Feeds e Plain (bump e)

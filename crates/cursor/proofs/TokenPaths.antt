@@ -1,15 +1,14 @@
 -- Each way through the rules on tokens.
-use Rattle.std.proofs.Common.{◌≡◌, ℕ, zero, suc, ◌+◌, ◌-◌, ◌*◌, ◌/◌, ◌<◌, ◌≤◌, Bool, true, false, eqb, ltb, List, length, get_or, sym, refl, ◌∙◌, le_of_lt, arith, ltb-false, le-ltb, lt-ltb, eq-eqb, ne_eqb, eqb-true}
+use Rattle.std.specs.Prelude.{Some, None}
+use Rattle.std.proofs.Common.{◌≡◌, ℕ, zero, suc, ◌+◌, ◌-◌, ◌*◌, ◌/◌, ◌<◌, ◌≤◌, Bool, true, false, eqb, ltb, List, length, get_or, min, sym, refl, ◌∙◌, arith, ltb-false, le-ltb, lt-ltb, eq-eqb, ne_eqb, eqb-true}
 use native.Mathlib.Decide.{dec_lt}
-use native.Mathlib.Nat.{min-eq_left, min-eq_right}
 use borrow.Author.Tests.{eqb-false}
 use Rattle.kinds.specs.Number as kind
 use Rattle.kinds.specs.Kinds.{is_trivia}
 use Rattle.cursor.specs.declared.State.{State}
 use Rattle.cursor.specs.declared.Span.{Span}
-use Rattle.cursor.specs.declared.Ranged.TheVariants as ranged
 use Rattle.cursor.specs.Sheet.{Sheet, count, kind_at, range_at}
-use Rattle.cursor.specs.Rule.{World, Stop, done, failed, refusal, refused, more, stop, iterate}
+use Rattle.cursor.specs.Rule.{World, Stop, done, failed, refused, more, stop, iterate}
 use Rattle.cursor.specs.Tokens.{past_from, past_trivia, eat_trivia, bump, eol_turn, eat_eol, rewind}
 use Rattle.cursor.proofs.Ends.{Ends, well, cut, Any, branch, then}
 use Rattle.cursor.proofs.Loops.{left, on, off, Takes}
@@ -22,11 +21,11 @@ pub kind-out : (ts : List ℕ) (i : ℕ) → length ts / 3 ≤ i → kind_at ts 
 unfolding kind_at count
 kind-out ts i p = rw (le-ltb _ _ p, kind_at)
 
-pub range-in : (ts : List ℕ) (i : ℕ) → i < length ts / 3 → range_at ts i ≡ ranged.At (record { start = get_or ts (i * 3 + 1) 0; end = get_or ts (i * 3 + 2) 0 })
+pub range-in : (ts : List ℕ) (i : ℕ) → i < length ts / 3 → range_at ts i ≡ Some (record { start = get_or ts (i * 3 + 1) 0; end = get_or ts (i * 3 + 2) 0 })
 unfolding range_at count
 range-in ts i p = rw (lt-ltb _ _ p, range_at)
 
-pub range-out : (ts : List ℕ) (i : ℕ) → length ts / 3 ≤ i → range_at ts i ≡ ranged.Nowhere
+pub range-out : (ts : List ℕ) (i : ℕ) → length ts / 3 ≤ i → range_at ts i ≡ None
 unfolding range_at count
 range-out ts i p = rw (le-ltb _ _ p, range_at)
 
@@ -39,14 +38,14 @@ there ts i p = by (dec_lt i (length ts / 3))
     by (no q) = absurd (p (kind-out ts i (omega arith)))
 
 -- a token that has a range is there, and where none has one the tokens are at their end
-pub range-there : (ts : List ℕ) (i : ℕ) {r : Span} → range_at ts i ≡ ranged.At r → i < length ts / 3
+pub range-there : (ts : List ℕ) (i : ℕ) {r : Span} → range_at ts i ≡ Some r → i < length ts / 3
 range-there ts i {r} p = by (dec_lt i (length ts / 3))
   where
     by : Dec (i < length ts / 3) → i < length ts / 3
     by (yes q) = q
     by (no q) = let o = range-out ts i (omega arith) in let z : ◌≡◌ {A = ℕ} 0 1 = cc in omega arith
 
-pub range-gone : (ts : List ℕ) (i : ℕ) → range_at ts i ≡ ranged.Nowhere → length ts / 3 ≤ i
+pub range-gone : (ts : List ℕ) (i : ℕ) → range_at ts i ≡ None → length ts / 3 ≤ i
 range-gone ts i p = by (dec_lt i (length ts / 3))
   where
     by : Dec (i < length ts / 3) → length ts / 3 ≤ i
@@ -80,12 +79,12 @@ module _ (ts : List ℕ) where
       rw e (past-from-on _ i p)
 
 module _ (e : Sheet) (s : State) (w : World) where
-  pub bump-end : range_at e.tokens s.at ≡ ranged.Nowhere → bump e s w ≡ done (record { at = s.at; prev = s.prev; reads = s.reads; nodes = s.nodes; errors = s.errors; wanted = s.wanted; live = 0 }) w tt
+  pub bump-end : range_at e.tokens s.at ≡ None → bump e s w ≡ done (record { at = s.at; prev = s.prev; reads = s.reads; nodes = s.nodes; errors = s.errors; wanted = s.wanted; live = 0 }) w tt
   unfolding bump count
   bump-end p = rw (le-ltb _ _ (range-gone _ _ p), bump)
 
-  module _ {r : Span} (p : range_at e.tokens s.at ≡ ranged.At r) where
-    pub bump-spent : e.limits.allowance ≤ s.reads → bump e s w ≡ failed (refused (refusal 10))
+  module _ {r : Span} (p : range_at e.tokens s.at ≡ Some r) where
+    pub bump-spent : e.limits.allowance ≤ s.reads → bump e s w ≡ failed (refused 10)
     unfolding bump count
     bump-spent q = rw (lt-ltb _ _ (range-there _ _ p), bump) (rw (le-ltb _ _ q))
 
@@ -144,10 +143,6 @@ module _ (e : Sheet) where
       (λ _. well (off tt))
 
 module _ (mark s : State) where
-  pub rewind-cut : s.live < mark.live → rewind mark s ≡ record { at = mark.at; prev = mark.prev; reads = s.reads; nodes = mark.nodes; errors = mark.errors; wanted = mark.wanted; live = s.live }
+  pub rewind-is : {n : ℕ} → n ≡ min mark.live s.live → record { at = mark.at; prev = mark.prev; reads = s.reads; nodes = mark.nodes; errors = mark.errors; wanted = mark.wanted; live = n } ≡ rewind mark s
   unfolding rewind
-  rewind-cut p = rw (min-eq_right (le_of_lt p))
-
-  pub rewind-left : mark.live ≤ s.live → rewind mark s ≡ record { at = mark.at; prev = mark.prev; reads = s.reads; nodes = mark.nodes; errors = mark.errors; wanted = mark.wanted; live = mark.live }
-  unfolding rewind
-  rewind-left p = rw (min-eq_left p)
+  rewind-is p = rw p refl

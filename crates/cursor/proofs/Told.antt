@@ -1,24 +1,19 @@
--- What an answer stands for determines it: the answer, and what the lent buffers hold, can be read off the end of the rule, unless the whole
--- reading was refused, which says nothing of the buffers (the entry function then clears them). A crate above gives a `Told` for each answer type
--- of its own and cites `one`.
+-- An answer and what the parser then holds can be read off the end of the rule that they stand for: two that stand for one end are the same
+-- answer, and the parser stands at the same place and holds the same in its buffers, unless the whole reading was refused. A refusal says
+-- nothing of the buffers (the entry function then clears them).
 -- Assumes nothing.
-use Rattle.std.proofs.Common.{◌≡◌, ℕ, Bool, true, false, sym, refl, ap, ◌∙◌, subst}
-use Rattle.cursor.specs.declared.Failure.{Failure}
-use Rattle.cursor.specs.declared.Moved.{Moved}
-use Rattle.cursor.specs.declared.Moved.TheVariants as moves
-use Rattle.cursor.specs.declared.Test.{Test}
-use Rattle.cursor.specs.declared.Test.TheVariants as tests
-use Rattle.cursor.specs.declared.Eaten.{Eaten}
-use Rattle.cursor.specs.declared.Eaten.TheVariants as eatens
-use Rattle.cursor.specs.declared.Picked.{Picked}
-use Rattle.cursor.specs.declared.Picked.TheVariants as picks
-use Rattle.cursor.specs.declared.Built.{Built}
-use Rattle.cursor.specs.declared.Built.TheVariants as builds
-use Rattle.cursor.specs.declared.Ranged.{Ranged}
-use Rattle.cursor.specs.declared.Ranged.TheVariants as ranged
-use Rattle.cursor.specs.Rule.{World, erred, Stop, fault, refused, Out, done, failed}
-use Rattle.cursor.specs.Answers.{as_stop, as_moved, as_test, as_eaten, as_picked, as_built}
-use Rattle.cursor.proofs.Failures.{by_number}
+use Rattle.std.specs.Prelude.{Result, Ok, Err}
+use Rattle.std.specs.declared.ops.ControlFlow.{ControlFlow}
+use Rattle.std.specs.declared.ops.ControlFlow.TheVariants.{Continue, Break}
+use Rattle.std.proofs.Common.{◌≡◌, ℕ, zero, suc, ◌-◌, sym, refl, ap, ◌∙◌}
+use Rattle.cursor.specs.declared.State.{State}
+use Rattle.cursor.specs.declared.Parser.{Parser}
+use Rattle.cursor.specs.declared.Refusal.{Refusal}
+use Rattle.cursor.specs.declared.Refusal.TheVariants as refusals
+use Rattle.cursor.specs.declared.Stop as declared
+use Rattle.cursor.specs.declared.Stop.TheVariants as stops
+use Rattle.cursor.specs.Rule.{World, fault, refused, Out, done, failed, Next}
+use Rattle.cursor.specs.Answers.{world_of, number, ended, turned}
 
 -- the reading goes on, or stops by an error: only a refusal says nothing of the buffers
 abbrev pub Settled : {A : Type 0} → Out A → Type 0
@@ -32,104 +27,72 @@ held_by d (done s w a) = w
 held_by d (failed (fault s w f)) = w
 held_by d (failed (refused n)) = d
 
--- an answer, and what the buffers hold, can be read off the end that they stand for
-pub record Told {A B : Type 0} (f : B → World → Out A) : Type 0 where
-  pub back : Out A → B
-  pub answer : (r : B) (w : World) → back (f r w) ≡ r
-  pub buffers : (r : B) (d w : World) → Settled (f r w) → held_by d (f r w) ≡ w
+-- and where the parser stands
+abbrev pub stands_by : {A : Type 0} → State → Out A → State
+stands_by d (done s w a) = s
+stands_by d (failed (fault s w f)) = s
+stands_by d (failed (refused n)) = d
 
--- two answers that stand for the same end are one, and so is what the buffers hold
-pub one : {A B : Type 0} {f : B → World → Out A} {o : Out A} → Told f → (r s : B) (w x : World) → f r w ≡ o → f s x ≡ o → (r ≡ s) × (Settled (f r w) → w ≡ x)
-one {f = f} told r s w x p q = (sym (told.answer r w) ∙ ap told.back (p ∙ sym q) ∙ told.answer s x, λ h. sym (told.buffers r w w h) ∙ ap (held_by w) (p ∙ sym q) ∙ told.buffers s w x (subst Settled (p ∙ sym q) h))
+-- two parsers stand at the same place and hold the same in their buffers
+abbrev pub Same : Parser → Parser → Type 0
+Same p q = (p.state ≡ q.state) × (world_of p ≡ world_of q)
 
-abbrev pub back_stop : Stop → Failure
-back_stop (fault s w f) = erred s f
-back_stop (refused f) = f
+-- two answers are one, and what the parsers hold
+abbrev pub One : {A : Type 0} → Parser → Parser → Result A declared.Stop → Result A declared.Stop → Type 0
+One p q r t = (r ≡ t) × (Settled (ended p r) → Same p q)
 
--- a failure can be read off the stop that it stands for, and what the buffers hold off an error
-pub failure : (f : Failure) (w : World) → back_stop (as_stop f w) ≡ f
-failure f w = by_number (λ g. back_stop (as_stop g w) ≡ g) (λ s x. refl) (λ s n x. refl) f
+-- each refusal can be read off its number
+by_place : ℕ → Refusal
+by_place zero = refusals.NoRoom
+by_place (suc zero) = refusals.ErrorsFull
+by_place (suc (suc zero)) = refusals.TooDeep
+by_place (suc (suc (suc zero))) = refusals.AllSpent
+by_place (suc (suc (suc (suc n)))) = refusals.ListFull
 
-pub lost : (A : Type 0) (f : Failure) (d w : World) → Settled {A = A} (failed (as_stop f w)) → held_by {A = A} d (failed (as_stop f w)) ≡ w
-lost A f d w = by_number (λ g. Settled {A = A} (failed (as_stop g w)) → held_by {A = A} d (failed (as_stop g w)) ≡ w) (λ s x h. refl) (λ s n x h. absurd h) f
+named : ℕ → Refusal
+named n = by_place (n - 7)
 
-pub moved : Told as_moved
-moved = record { back = back; answer = answer; buffers = buffers }
-  where
-    back : Out Unit → Moved
-    back (done s w a) = moves.On s
-    back (failed x) = moves.Failed (back_stop x)
+told : (r : Refusal) → named (number r) ≡ r
+unfolding named by_place
+told refusals.NoRoom = refl
+told refusals.ErrorsFull = refl
+told refusals.TooDeep = refl
+told refusals.AllSpent = refl
+told refusals.ListFull = refl
 
-    answer : (r : Moved) (w : World) → back (as_moved r w) ≡ r
-    answer (moves.On s) w = refl
-    answer (moves.Failed f) w = ap moves.Failed (failure f w)
+-- two answers that stand for the same end are one, and so is what the parser holds
+pub one : {A : Type 0} {o : Out A} (p q : Parser) (r t : Result A declared.Stop) → ended p r ≡ o → ended q t ≡ o → One p q r t
+one p q (Ok a) (Ok b) h k = (cc (h, k), λ _. (cc (h, k), cc (h, k)))
+one p q (Ok a) (Err (stops.Fault f)) h k = absurd (cc (h, k))
+one p q (Ok a) (Err (stops.Refused f)) h k = absurd (cc (h, k))
+one p q (Err (stops.Fault f)) (Ok a) h k = absurd (cc (h, k))
+one p q (Err (stops.Refused f)) (Ok a) h k = absurd (cc (h, k))
+one p q (Err (stops.Fault f)) (Err (stops.Fault g)) h k = (cc (h, k), λ _. (cc (h, k), cc (h, k)))
+one p q (Err (stops.Fault f)) (Err (stops.Refused g)) h k = absurd (cc (h, k))
+one p q (Err (stops.Refused f)) (Err (stops.Fault g)) h k = absurd (cc (h, k))
+one p q (Err (stops.Refused f)) (Err (stops.Refused g)) h k = let e : number f ≡ number g = cc (h, k) in (ap (λ x. Err (stops.Refused x)) (sym (told f) ∙ ap named e ∙ told g), λ b. absurd b)
 
-    buffers : (r : Moved) (d w : World) → Settled (as_moved r w) → held_by d (as_moved r w) ≡ w
-    buffers (moves.On s) d w h = refl
-    buffers (moves.Failed f) d w h = lost Unit f d w h
+-- of a rule that cannot fail both hold always
+pub alike : {A : Type 0} {o : Out A} (p q : Parser) (a b : A) → ended p (Ok a) ≡ o → ended q (Ok b) ≡ o → (a ≡ b) × Same p q
+alike p q a b h k = (cc (h, k), (cc (h, k), cc (h, k)))
 
-pub tested : Told as_test
-tested = record { back = back; answer = answer; buffers = buffers }
-  where
-    back : Out Bool → Test
-    back (done s w true) = tests.Yes s
-    back (done s w false) = tests.No s
-    back (failed x) = tests.Failed (back_stop x)
+-- a value can be read off what is made of it
+abbrev pub Apart : {A B : Type 0} → (A → B) → Type 0
+Apart f = (a b : _) → f a ≡ f b → a ≡ b
 
-    answer : (r : Test) (w : World) → back (as_test r w) ≡ r
-    answer (tests.Yes s) w = refl
-    answer (tests.No s) w = refl
-    answer (tests.Failed f) w = ap tests.Failed (failure f w)
+-- a turn's answer can be read off the loop's values that it stands for
+turn : {A B C E : Type 0} (f : C → A) (g : B → A) → Apart f → Apart g → (r t : Result (ControlFlow B C) E) → turned f g r ≡ turned f g t → r ≡ t
+turn f g i j (Ok (Continue a)) (Ok (Continue b)) h = ap (λ x. Ok (Continue x)) (i a b (cc h))
+turn f g i j (Ok (Continue a)) (Ok (Break b)) h = absurd (cc h)
+turn f g i j (Ok (Break a)) (Ok (Continue b)) h = absurd (cc h)
+turn f g i j (Ok (Break a)) (Ok (Break b)) h = ap (λ x. Ok (Break x)) (j a b (cc h))
+turn f g i j (Ok (Continue a)) (Err e) h = absurd (cc h)
+turn f g i j (Ok (Break a)) (Err e) h = absurd (cc h)
+turn f g i j (Err e) (Ok (Continue a)) h = absurd (cc h)
+turn f g i j (Err e) (Ok (Break a)) h = absurd (cc h)
+turn f g i j (Err d) (Err e) h = cc h
 
-    buffers : (r : Test) (d w : World) → Settled (as_test r w) → held_by d (as_test r w) ≡ w
-    buffers (tests.Yes s) d w h = refl
-    buffers (tests.No s) d w h = refl
-    buffers (tests.Failed f) d w h = lost Bool f d w h
-
-pub eaten : Told as_eaten
-eaten = record { back = back; answer = answer; buffers = buffers }
-  where
-    back : Out Ranged → Eaten
-    back (done s w (ranged.At r)) = eatens.At s r
-    back (done s w ranged.Nowhere) = eatens.No s
-    back (failed x) = eatens.Failed (back_stop x)
-
-    answer : (r : Eaten) (w : World) → back (as_eaten r w) ≡ r
-    answer (eatens.At s r) w = refl
-    answer (eatens.No s) w = refl
-    answer (eatens.Failed f) w = ap eatens.Failed (failure f w)
-
-    buffers : (r : Eaten) (d w : World) → Settled (as_eaten r w) → held_by d (as_eaten r w) ≡ w
-    buffers (eatens.At s r) d w h = refl
-    buffers (eatens.No s) d w h = refl
-    buffers (eatens.Failed f) d w h = lost Ranged f d w h
-
-pub picked : Told as_picked
-picked = record { back = back; answer = answer; buffers = buffers }
-  where
-    back : Out ℕ → Picked
-    back (done s w i) = picks.Case s i
-    back (failed x) = picks.Failed (back_stop x)
-
-    answer : (r : Picked) (w : World) → back (as_picked r w) ≡ r
-    answer (picks.Case s i) w = refl
-    answer (picks.Failed f) w = ap picks.Failed (failure f w)
-
-    buffers : (r : Picked) (d w : World) → Settled (as_picked r w) → held_by d (as_picked r w) ≡ w
-    buffers (picks.Case s i) d w h = refl
-    buffers (picks.Failed f) d w h = lost ℕ f d w h
-
-pub built : Told as_built
-built = record { back = back; answer = answer; buffers = buffers }
-  where
-    back : Out ℕ → Built
-    back (done s w i) = builds.Node s i
-    back (failed x) = builds.Failed (back_stop x)
-
-    answer : (r : Built) (w : World) → back (as_built r w) ≡ r
-    answer (builds.Node s i) w = refl
-    answer (builds.Failed f) w = ap builds.Failed (failure f w)
-
-    buffers : (r : Built) (d w : World) → Settled (as_built r w) → held_by d (as_built r w) ≡ w
-    buffers (builds.Node s i) d w h = refl
-    buffers (builds.Failed f) d w h = lost ℕ f d w h
+-- two turns that stand for the same end
+pub one_turn : {A B C : Type 0} {f : C → A} {g : B → A} {o : Out (Next A)} → Apart f → Apart g → (p q : Parser) (r t : Result (ControlFlow B C) declared.Stop)
+    → ended p (turned f g r) ≡ o → ended q (turned f g t) ≡ o → (r ≡ t) × (Settled (ended p (turned f g r)) → Same p q)
+one_turn {f = f} {g = g} i j p q r t h k = let z = one p q (turned f g r) (turned f g t) h k in (turn f g i j r t z.0, z.1)

@@ -1,13 +1,11 @@
 -- Tests of what stands here, and the live list of the kinds that were expected.
-use Rattle.std.specs.Prelude.{ℕ, ◌+◌, Bool, true, false, not, ◌&&◌, ◌||◌, List, [], ◌∷◌, length, ◌==◌, nat_le, nat_lt}
+use Rattle.std.specs.Prelude.{unwrap_or, ℕ, ◌+◌, Bool, true, false, not, ◌&&◌, ◌||◌, List, [], ◌∷◌, length, ◌==◌, nat_le, nat_lt, None}
 use Rattle.cursor.specs.declared.State.{State}
 use Rattle.cursor.specs.declared.Fault.{Fault}
 use Rattle.cursor.specs.declared.Span.{Span}
-use Rattle.cursor.specs.declared.Ranged.{Ranged}
-use Rattle.cursor.specs.declared.Ranged.TheVariants as ranged
+use Rattle.cursor.specs.Sheet.{Sheet, kind_at, range_at, Ranged}
 use Rattle.cursor.specs.Layout.{UNEXPECTED}
-use Rattle.cursor.specs.Sheet.{Sheet, kind_at, range_at}
-use Rattle.cursor.specs.Rule.{fault, refusal, refused, Out, done, failed, Rule, ◌>>=◌, ◌>>◌, give, if_so}
+use Rattle.cursor.specs.Rule.{fault, refused, Out, done, failed, Rule, ◌>>=◌, ◌>>◌, give, if_so}
 use Rattle.cursor.specs.Buffer.{put}
 use Rattle.cursor.specs.Tokens.{bump}
 
@@ -38,7 +36,7 @@ unfoldable pub want : ℕ → Rule Unit
 want k s w = elim (nat_lt s.live live_room) as (λ _. Out Unit) [
   | true ↦ done (record { at = s.at; prev = s.prev; reads = s.reads; nodes = s.nodes; errors = s.errors; wanted = s.wanted; live = s.live + 1 })
       (record { nodes = w.nodes; errors = w.errors; expected = w.expected; live = put w.live s.live k }) tt
-  | false ↦ failed (refused (refusal 11))
+  | false ↦ failed (refused 11)
 ]
 
 -- is the current token of this kind? Where not, the kind was expected
@@ -61,12 +59,11 @@ eat e k = do
 
 -- the range of the current token, or the empty one at the end of the last token read
 abbrev pub found_at : Ranged → ℕ → Span
-found_at (ranged.At r) prev = r
-found_at ranged.Nowhere prev = record { start = prev; end = prev }
+found_at r prev = unwrap_or r (record { start = prev; end = prev })
 
 -- the error of an unexpected token: the live list is what was expected
 unfoldable pub unexpected_at : Sheet → State → Fault
-unexpected_at e s = record { class = UNEXPECTED; found = kind_at e.tokens s.at; span = found_at (range_at e.tokens s.at) s.prev; listed = 1 }
+unexpected_at e s = record { class = UNEXPECTED; found = kind_at e.tokens s.at; span = found_at (range_at e.tokens s.at) s.prev; listed = true }
 
 unfoldable pub unexpected : {A : Type 0} → Sheet → Rule A
 unexpected e s w = failed (fault s w (unexpected_at e s))
@@ -84,7 +81,7 @@ eat_range e k s w = (do
   if_so (do
     bump e
     give (range_at e.tokens s.at))
-      (give ranged.Nowhere) here) s w
+      (give None) here) s w
 
 -- one way of a chain of checks: the kind that has to stand here, and the rule for it
 infix 68 ◌⇒◌

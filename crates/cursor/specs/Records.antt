@@ -1,11 +1,11 @@
 -- Records: raw buffers, exactly as the code writes them.
-use Rattle.std.specs.Prelude.{ℕ, zero, suc, ◌+◌, ◌*◌, ◌/◌, ◌%◌, ◌^◌, min, Bool, true, false, cond, List, length, ◌==◌, nat_le, nat_lt}
+use Rattle.std.specs.Prelude.{ℕ, zero, suc, ◌+◌, ◌*◌, ◌/◌, ◌%◌, ◌^◌, min, Bool, true, false, cond, List, length, nat_le, nat_lt}
 use Rattle.cursor.specs.declared.State.{State}
 use Rattle.cursor.specs.declared.Fault.{Fault}
 use Rattle.cursor.specs.declared.Kids.{Kids}
 use Rattle.cursor.specs.declared.Label.{Label}
 use Rattle.cursor.specs.Layout.{node_words, KIND, START, END, FIRST, NEXT, ONE, TWO, FLAGS, cell, error_words, CLASS, FOUND, ERROR_START, ERROR_END, KINDS_FROM, KINDS_COUNT, error_cell, node_limit, error_limit, expected_limit}
-use Rattle.cursor.specs.Rule.{World, refusal, refused, Out, done, failed, Rule}
+use Rattle.cursor.specs.Rule.{World, refused, Out, done, failed, Rule}
 use Rattle.cursor.specs.Buffer.{put, copy}
 use Rattle.cursor.specs.Checks.{live_room}
 
@@ -30,7 +30,7 @@ with_nodes w xs = record { nodes = xs; errors = w.errors; expected = w.expected;
 unfoldable pub append : Label → ℕ → Rule ℕ
 append l first s w = elim (nat_lt s.nodes (min (length w.nodes / node_words) node_limit)) as (λ _. Out ℕ) [
   | true ↦ done (record { at = s.at; prev = s.prev; reads = s.reads; nodes = s.nodes + 1; errors = s.errors; wanted = s.wanted; live = s.live }) (with_nodes w (write w.nodes s.nodes l first)) (s.nodes + 1)
-  | false ↦ failed (refused (refusal 7))
+  | false ↦ failed (refused 7)
 ]
 
 -- the link that leads to no record
@@ -57,9 +57,9 @@ reflag (suc i) flags s w = done s (with_nodes w (put w.nodes (cell i FLAGS) flag
 abbrev pub flagged : ℕ → ℕ → Bool → Bool → ℕ
 flagged n m one two = word32 (n + 2 ^ 15 * m + 2 ^ 30 * bit one + 2 ^ 31 * bit two)
 
--- how many kinds an error lists: the live list's, where it is the error's own (1)
+-- how many kinds an error lists: the live list's, where it is the error's own
 abbrev pub list_length : Fault → State → ℕ
-list_length f s = cond (f.listed == 1) (min s.live live_room) 0
+list_length f s = cond f.listed (min s.live live_room) 0
 
 -- all six words of error record i, whose n expected kinds start at a place of the expected buffer
 unfoldable pub write_error : List ℕ → ℕ → Fault → ℕ → ℕ → List ℕ
@@ -75,7 +75,7 @@ unfoldable pub log : Fault → Rule Unit
 log f s w = elim (nat_lt s.errors (min (length w.errors / error_words) error_limit)) as (λ _. Out Unit) [
   | true ↦ elim (nat_le (s.wanted + list_length f s) (min (length w.expected) expected_limit)) as (λ _. Out Unit) [
     | true ↦ done (record { at = s.at; prev = s.prev; reads = s.reads; nodes = s.nodes; errors = s.errors + 1; wanted = s.wanted + list_length f s; live = s.live }) (logged f (list_length f s) s w) tt
-    | false ↦ failed (refused (refusal 8))
+    | false ↦ failed (refused 8)
   ]
-  | false ↦ failed (refused (refusal 8))
+  | false ↦ failed (refused 8)
 ]

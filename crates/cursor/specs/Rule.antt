@@ -2,7 +2,6 @@
 use Rattle.std.specs.Prelude.{ℕ, zero, suc, ◌-◌, Bool, true, false, List}
 use Rattle.cursor.specs.declared.State.{State}
 use Rattle.cursor.specs.declared.Fault.{Fault}
-use Rattle.cursor.specs.declared.Failure.{Failure}
 use Rattle.cursor.specs.Sheet.{Sheet, count}
 
 -- what the buffers hold
@@ -19,18 +18,10 @@ world n e x l = record { nodes = n; errors = e; expected = x; live = l }
 abbrev pub begin : State
 begin = record { at = 0; prev = 0; reads = 0; nodes = 0; errors = 0; wanted = 0; live = 0 }
 
--- an error as a failure: number 0, where it was met, and what it is
-abbrev pub erred : State → Fault → Failure
-erred s f = record { state = s; number = 0; fault = f }
-
--- a refusal under a number, 7 to 11, which is all that it tells
-abbrev pub refusal : ℕ → Failure
-refusal n = record { state = begin; number = n; fault = record { class = 0; found = 0; span = record { start = 0; end = 0 }; listed = 0 } }
-
--- how a rule fails: Rust's Err, which is not logged yet; or a refusal, which ends the whole reading
+-- how a rule fails: Rust's Err, where it was met, which is not logged yet; or a refusal under a number, 7 to 11, which ends the whole reading and tells no more
 pub data Stop : Type 0 where
   fault : State → World → Fault → Stop
-  refused : Failure → Stop
+  refused : ℕ → Stop
 
 -- how a rule ends: Rust's Ok, or it fails
 pub data Out (A : Type 0) : Type 0 where
@@ -58,7 +49,7 @@ give a s w = done s w a
 
 -- the whole reading ends under this number
 abbrev pub refuse : {A : Type 0} → ℕ → Rule A
-refuse n s w = failed (refused (refusal n))
+refuse n s w = failed (refused n)
 
 -- the one rule or the other
 abbrev pub if_so : {A : Type 0} → Rule A → Rule A → Bool → Rule A

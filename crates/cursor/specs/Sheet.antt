@@ -1,9 +1,12 @@
 -- What does not change while a sheet is read: its text, its tokens and the caller's limits; and what the tokens say.
-use Rattle.std.specs.Prelude.{ℕ, ◌+◌, ◌*◌, ◌/◌, true, false, List, length, nat_lt, slice_index, slice_index_or}
+use Rattle.std.specs.Prelude.{ℕ, ◌+◌, ◌*◌, ◌/◌, true, false, List, length, nat_lt, slice_index, slice_index_or, Option, Some, None}
 use Rattle.kinds.specs.Number as kind
 use Rattle.cursor.specs.declared.Limits.{Limits}
-use Rattle.cursor.specs.declared.Ranged.{Ranged}
-use Rattle.cursor.specs.declared.Ranged.TheVariants as ranged
+use Rattle.cursor.specs.declared.Span.{Span}
+
+-- a range, if there is one
+abbrev pub Ranged : Type 0
+Ranged = Option Span
 
 pub record Sheet : Type 0 where
   pub text : List ℕ
@@ -24,6 +27,6 @@ kind_at tokens i = elim (nat_lt i (count tokens)) as (λ _. ℕ) [ true ↦ slic
 -- the range of the token at a place; none past the end
 unfoldable pub range_at : List ℕ → ℕ → Ranged
 range_at tokens i = elim (nat_lt i (count tokens)) as (λ _. Ranged) [
-  | true ↦ ranged.At (record { start = slice_index tokens (i * 3 + 1); end = slice_index tokens (i * 3 + 2) })
-  | false ↦ ranged.Nowhere
+  | true ↦ Some (record { start = slice_index tokens (i * 3 + 1); end = slice_index tokens (i * 3 + 2) })
+  | false ↦ None
 ]

@@ -1,13 +1,11 @@
 -- Where the reading stands in the token list.
-use Rattle.std.specs.Prelude.{ℕ, zero, suc, ◌+◌, ◌-◌, min, true, false, List, ◌==◌, nat_lt}
+use Rattle.std.specs.Prelude.{ℕ, zero, suc, ◌+◌, ◌-◌, min, true, false, List, ◌==◌, nat_lt, Some, None}
 use Rattle.kinds.specs.Number as kind
 use Rattle.kinds.specs.Kinds.{is_trivia}
 use Rattle.cursor.specs.declared.State.{State}
 use Rattle.cursor.specs.declared.Span.{Span}
-use Rattle.cursor.specs.declared.Ranged.{Ranged}
-use Rattle.cursor.specs.declared.Ranged.TheVariants as ranged
-use Rattle.cursor.specs.Sheet.{Sheet, count, kind_at, range_at}
-use Rattle.cursor.specs.Rule.{refusal, refused, Out, done, failed, Rule, ◌>>◌, give, Next, more, stop, Turn, iterate}
+use Rattle.cursor.specs.Sheet.{Sheet, count, kind_at, range_at, Ranged}
+use Rattle.cursor.specs.Rule.{refused, Out, done, failed, Rule, ◌>>◌, give, Next, more, stop, Turn, iterate}
 
 -- the first place from i on whose token is no trivia, among at most so many
 unfoldable pub past_from : List ℕ → ℕ → ℕ → ℕ
@@ -20,12 +18,12 @@ past_trivia tokens i = past_from tokens (count tokens - i) i
 
 -- where a range starts and ends; 0 where there is none
 abbrev pub start_of : Ranged → ℕ
-start_of (ranged.At r) = r.start
-start_of ranged.Nowhere = 0
+start_of (Some r) = r.start
+start_of None = 0
 
 abbrev pub end_of : Ranged → ℕ
-end_of (ranged.At r) = r.end
-end_of ranged.Nowhere = 0
+end_of (Some r) = r.end
+end_of None = 0
 
 -- past the trivia here
 unfoldable pub eat_trivia : Sheet → Rule Unit
@@ -36,7 +34,7 @@ unfoldable pub bump : Sheet → Rule Unit
 bump e s w = elim (nat_lt s.at (count e.tokens)) as (λ _. Out Unit) [
   | true ↦ elim (nat_lt s.reads e.limits.allowance) as (λ _. Out Unit) [
     | true ↦ done (record { at = past_trivia e.tokens (s.at + 1); prev = end_of (range_at e.tokens s.at); reads = s.reads + 1; nodes = s.nodes; errors = s.errors; wanted = s.wanted; live = 0 }) w tt
-    | false ↦ failed (refused (refusal 10))
+    | false ↦ failed (refused 10)
   ]
   | false ↦ done (record { at = s.at; prev = s.prev; reads = s.reads; nodes = s.nodes; errors = s.errors; wanted = s.wanted; live = 0 }) w tt
 ]

@@ -1,5 +1,5 @@
-// The parser's state and how its rules end. The buffers that a sheet is read into are the caller's and are lent to each
-// function that needs them, in this order: text, tokens, nodes, errors, expected, live, limits, state, the rest.
+// The parser over a sheet: where it stands, the buffers that it fills, and how its rules end. The sheet does not change while it is
+// read, so it stands apart from the parser: each rule takes both, and none has to say that the sheet stayed as it was.
 #![tactic(auto)]
 
 pub mod checks;
@@ -20,8 +20,16 @@ pub struct Limits {
     pub allowance: u32,
 }
 
+// What is read: the text, its tokens and the caller's limits.
+#[derive(Clone, Copy)]
+pub struct Sheet<'a> {
+    pub text: &'a [u8],
+    pub tokens: &'a [u32],
+    pub limits: Limits,
+}
+
 // Where the reading stands: the position in the token list, the end of the last token read, the readings, and how much of the node,
-// error and expected buffers and of the live list is in use.
+// error and expected buffers and of the live list is in use. A rule that is tried keeps it as a mark to come back to.
 #[derive(Clone, Copy)]
 pub struct State {
     pub at: usize,
@@ -33,70 +41,7 @@ pub struct State {
     pub live: u32,
 }
 
-#[derive(Clone, Copy)]
-pub struct Span {
-    pub start: u32,
-    pub end: u32,
-}
-
-// The range of the current token, if there is one.
-#[derive(Clone, Copy)]
-pub enum Ranged {
-    At(Span),
-    Nowhere,
-}
-
-// Rust's CompilerError, not yet logged: a kind that was found (class 0) or an integer's fault (class 1), and whether the live list is its
-// list of expected kinds, 1 or 0: a word, since behind a bool each copy would have a gap of three bytes to copy too.
-#[derive(Clone, Copy)]
-pub struct Fault {
-    pub class: u32,
-    pub found: u32,
-    pub span: Span,
-    pub listed: u32,
-}
-
-// How a rule ends where it does not succeed: Rust's Err, under number 0, or a refusal, which ends the whole reading. It is no enum so that its State lies where
-// that of a success does: with a tag before it each copy of a State would be put together from bytes.
-#[derive(Clone, Copy)]
-pub struct Failure {
-    pub state: State,
-    pub number: u32,
-    pub fault: Fault,
-}
-
-// The refusals: no room for a node record, for an error record or its kinds, for a level, for a reading, in the live list. A refusal has its number alone.
-pub const NO_ROOM: Failure = Failure {
-    state: BEGIN,
-    number: 7,
-    fault: NO_FAULT,
-};
-
-pub const ERRORS_FULL: Failure = Failure {
-    state: BEGIN,
-    number: 8,
-    fault: NO_FAULT,
-};
-
-pub const TOO_DEEP: Failure = Failure {
-    state: BEGIN,
-    number: 9,
-    fault: NO_FAULT,
-};
-
-pub const ALL_SPENT: Failure = Failure {
-    state: BEGIN,
-    number: 10,
-    fault: NO_FAULT,
-};
-
-pub const LIST_FULL: Failure = Failure {
-    state: BEGIN,
-    number: 11,
-    fault: NO_FAULT,
-};
-
-// Where a reading begins: before the first token, with nothing read, built or logged. A refusal has it too, since it tells of no place.
+// Where a reading begins: before the first token, with nothing read, built or logged.
 pub const BEGIN: State = State {
     at: 0,
     prev: 0,
@@ -107,51 +52,51 @@ pub const BEGIN: State = State {
     live: 0,
 };
 
-const NO_FAULT: Fault = Fault {
-    class: 0,
-    found: 0,
-    span: Span { start: 0, end: 0 },
-    listed: 0,
-};
-
-// The answer of a rule that only moves.
-#[derive(Clone, Copy)]
-pub enum Moved {
-    On(State),
-    Failed(Failure),
+// The state, the caller's three buffers, and the live list of the kinds that were expected here. The buffers are lent, since nothing is allocated.
+#[derive(Drop)]
+pub struct Parser<'a> {
+    pub nodes: &'a mut [u32],
+    pub errors: &'a mut [u32],
+    pub expected: &'a mut [u8],
+    pub live: [u8; LIVE_ROOM],
+    pub state: State,
 }
 
-// The answer of a rule that tests what stands here.
 #[derive(Clone, Copy)]
-pub enum Test {
-    Yes(State),
-    No(State),
-    Failed(Failure),
+pub struct Span {
+    pub start: u32,
+    pub end: u32,
 }
 
-// The answer of `eat_range`.
+// Rust's CompilerError, not yet logged: a kind that was found (class 0) or an integer's fault (class 1), and whether the live list is its
+// list of expected kinds. The class is a number, since it is a word of the error record, as C has it.
 #[derive(Clone, Copy)]
-pub enum Eaten {
-    At(State, Span),
-    No(State),
-    Failed(Failure),
+pub struct Fault {
+    pub class: u32,
+    pub found: u32,
+    pub span: Span,
+    pub listed: bool,
 }
 
-// The answer of a chain of checks: the place of the first that holds.
-#[derive(Clone, Copy)]
-pub enum Picked {
-    Case(State, usize),
-    Failed(Failure),
+// What ends the whole reading: no room for a node record, for an error record or its kinds, for a level, for a reading, in the live list.
+#[derive(Clone, Copy, Debug, PartialEq, Eq)]
+pub enum Refusal {
+    NoRoom,
+    ErrorsFull,
+    TooDeep,
+    AllSpent,
+    ListFull,
 }
 
-// The answer of a rule that builds a record: the link to it.
+// How a rule ends where it does not succeed: Rust's Err, which was met where the parser then stands, or a refusal.
 #[derive(Clone, Copy)]
-pub enum Built {
-    Node(State, u32),
-    Failed(Failure),
+pub enum Stop {
+    Fault(Fault),
+    Refused(Refusal),
 }
 
-// A row of children under construction: links to the first and the last (0: none, otherwise the index and 1), and how many there are.
+// A row of children under construction: links to the first and the last (0: none, otherwise the index and 1), and how many there are. A link is 0
+// and no Option, since it is a word of a record, as C has it.
 #[derive(Clone, Copy)]
 pub struct Kids {
     pub first: u32,

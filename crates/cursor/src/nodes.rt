@@ -1,4 +1,5 @@
-// The kinds of node records. docs/LAYOUT.md says what each one holds; 0 is no record.
+// The kinds of node records. docs/LAYOUT.md says what each one holds; 0 is no record. They are numbers, since records
+// have them as words of the C interface, and `close` and its like take any of them.
 pub const NULL: u32 = 1;
 
 pub const BOOL: u32 = 2;

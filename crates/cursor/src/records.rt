@@ -1,11 +1,10 @@
 // Records: node records with their links, and error records with their expected kinds.
-ghost use Rattle.std.specs.Prelude.{◌≡◌, ℕ, min, List};
-ghost use Rattle.cursor.specs.declared.State.{State};
-ghost use Rattle.cursor.specs.Rule.{world, done};
+ghost use Rattle.std.specs.Prelude.{◌≡◌, ◌+◌, ◌≤◌, length, Ok};
+ghost use Rattle.cursor.specs.Buffer.{copy};
 ghost use Rattle.cursor.specs.Records.{append, add, reflag, bit, flagged, list_length, log};
-ghost use Rattle.cursor.specs.Answers.{as_built, as_moved};
+ghost use Rattle.cursor.specs.Answers.{run, ended, SameLists, SameNodes};
 
-use crate::{Built, ERRORS_FULL, Fault, Kids, LIVE_ROOM, Label, Moved, NO_ROOM, State};
+use crate::{Fault, Kids, LIVE_ROOM, Label, Parser, Refusal, Stop};
 
 // The words of a node record and their places.
 pub const NODE_WORDS: usize = 8;
@@ -48,73 +47,6 @@ pub const ERROR_LIMIT: usize = 64;
 
 pub const EXPECTED_LIMIT: usize = 65536;
 
-// The smaller of two numbers: a buffer's room and the limit on it.
-fn within(room: usize, limit: usize) -> usize
-    ensures { result ≡ min room limit }
-{
-    if room < limit { room } else { limit }
-}
-
-// One more node record, over the children from a link on. Answers the link to it.
-pub fn append(nodes: &mut [u32], s: State, label: Label, first: u32) -> Built
-    ensures { (e x l : List ℕ) → as_built result (world nodes.new e x l) ≡ append label first s (world nodes.old e x l) }
-{
-    let n = s.nodes;
-    let i = n as usize;
-    if within(nodes.len() / NODE_WORDS, NODE_LIMIT) <= i {
-        return Built::Failed(NO_ROOM);
-    }
-    let base = NODE_WORDS * i;
-    nodes[base + KIND] = label.kind;
-    nodes[base + START] = label.start;
-    nodes[base + END] = label.end;
-    nodes[base + FIRST] = first;
-    nodes[base + NEXT] = 0;
-    nodes[base + ONE] = label.one;
-    nodes[base + TWO] = label.two;
-    nodes[base + FLAGS] = label.flags;
-    let mut grown = s;
-    grown.nodes = n + 1;
-    Built::Node(grown, n + 1)
-}
-
-// One more child at the end of a row.
-pub fn add(nodes: &mut [u32], kids: Kids, link: u32) -> Kids
-    ensures { (s : State) (e x l : List ℕ) → done s (world nodes.new e x l) result ≡ add kids link s (world nodes.old e x l) }
-{
-    let last = kids.last;
-    let count = std::num::wrapping_add_u32(kids.count, 1);
-    if last == 0 {
-        return Kids {
-            first: link,
-            last: link,
-            count,
-        };
-    }
-    let place = NODE_WORDS * ((last - 1) as usize) + NEXT;
-    if place < nodes.len() {
-        nodes[place] = link;
-    }
-    Kids {
-        first: kids.first,
-        last: link,
-        count,
-    }
-}
-
-// Other flags for the record that a link leads to.
-pub fn reflag(nodes: &mut [u32], link: u32, flags: u32)
-    ensures { (s : State) (e x l : List ℕ) → done s (world nodes.new e x l) tt ≡ reflag link flags s (world nodes.old e x l) }
-{
-    if link == 0 {
-        return;
-    }
-    let place = NODE_WORDS * ((link - 1) as usize) + FLAGS;
-    if place < nodes.len() {
-        nodes[place] = flags;
-    }
-}
-
 fn bit(b: bool) -> u64
     ensures { result ≡ bit b }
 {
@@ -130,49 +62,117 @@ pub fn flagged(n: u32, m: u32, one: bool, two: bool) -> u32
     ((lengths + flags) % 0x1_0000_0000) as u32
 }
 
-// How many kinds an error lists: the live list's, where it is the error's own.
-fn list_length(s: State, f: Fault) -> usize
-    ensures { result ≡ list_length f s }
+// The first kinds of the live list, into the expected buffer from a place on.
+fn copy_kinds(expected: &mut [u8], from: usize, live: &[u8; LIVE_ROOM], count: usize)
+    requires { (from + count ≤ length expected.old) × (count ≤ 1024) }
+    ensures { expected.new ≡ copy expected.old from live.now 0 count }
 {
-    if f.listed == 1 {
-        return within(s.live as usize, LIVE_ROOM);
+    for k in 0..count {
+        expected[from + k] = live[k];
     }
-    0
 }
 
-// Logs an error: its record, and the kinds that it lists in the expected buffer.
-pub fn log_error(
-    errors: &mut [u32],
-    expected: &mut [u8],
-    live: &[u8; 1024],
-    s: State,
-    f: Fault,
-) -> Moved
-    ensures { (n : List ℕ) → as_moved result (world n errors.new expected.new live.now) ≡ log f s (world n errors.old expected.old live.now) }
-{
-    let count = list_length(s, f);
-    let from = s.wanted as usize;
-    let i = s.errors as usize;
-    if within(errors.len() / ERROR_WORDS, ERROR_LIMIT) <= i {
-        return Moved::Failed(ERRORS_FULL);
+impl Parser<'_> {
+    // One more node record, over the children from a link on. Answers the link to it.
+    pub fn append(&mut self, label: Label, first: u32) -> Result<u32, Stop>
+        ensures ended { ended self.new result ≡ run (append label first) self.old }
+        ensures lent { SameLists self.old self.new }
+    {
+        let i = self.state.nodes as usize;
+        let room = (self.nodes.len() / NODE_WORDS).min(NODE_LIMIT);
+        if room <= i {
+            return Err(Stop::Refused(Refusal::NoRoom));
+        }
+        let base = NODE_WORDS * i;
+        self.nodes[base + KIND] = label.kind;
+        self.nodes[base + START] = label.start;
+        self.nodes[base + END] = label.end;
+        self.nodes[base + FIRST] = first;
+        self.nodes[base + NEXT] = 0;
+        self.nodes[base + ONE] = label.one;
+        self.nodes[base + TWO] = label.two;
+        self.nodes[base + FLAGS] = label.flags;
+        self.state.nodes += 1;
+        Ok(self.state.nodes)
     }
-    if within(expected.len(), EXPECTED_LIMIT) < from + count {
-        return Moved::Failed(ERRORS_FULL);
+
+    // One more child at the end of a row.
+    pub fn add(&mut self, kids: Kids, link: u32) -> Kids
+        ensures ended { ended self.new (Ok result) ≡ run (add kids link) self.old }
+        ensures lent { SameLists self.old self.new }
+    {
+        let count = kids.count.wrapping_add(1);
+        if kids.last == 0 {
+            return Kids {
+                first: link,
+                last: link,
+                count,
+            };
+        }
+        let place = NODE_WORDS * ((kids.last - 1) as usize) + NEXT;
+        if place < self.nodes.len() {
+            self.nodes[place] = link;
+        }
+        Kids {
+            first: kids.first,
+            last: link,
+            count,
+        }
     }
-    let base = ERROR_WORDS * i;
-    errors[base + CLASS] = f.class;
-    errors[base + FOUND] = f.found;
-    errors[base + ERROR_START] = f.span.start;
-    errors[base + ERROR_END] = f.span.end;
-    errors[base + KINDS_FROM] = s.wanted;
-    errors[base + KINDS_COUNT] = count as u32;
-    let mut k = 0;
-    while k < count {
-        expected[from + k] = live[k];
-        k += 1;
+
+    // Other flags for the record that a link leads to.
+    pub fn reflag(&mut self, link: u32, flags: u32)
+        ensures ended { ended self.new (Ok (tt {0})) ≡ run (reflag link flags) self.old }
+        ensures lent { SameLists self.old self.new }
+    {
+        if link == 0 {
+            return;
+        }
+        let place = NODE_WORDS * ((link - 1) as usize) + FLAGS;
+        if place < self.nodes.len() {
+            self.nodes[place] = flags;
+        }
     }
-    let mut told = s;
-    told.errors = s.errors + 1;
-    told.wanted = (from + count) as u32;
-    Moved::On(told)
+
+    // How many kinds an error lists: the live list's, where it is the error's own.
+    fn list_length(&self, fault: Fault) -> usize
+        ensures { result ≡ list_length fault self.now.state }
+    {
+        if fault.listed {
+            (self.state.live as usize).min(LIVE_ROOM)
+        } else {
+            0
+        }
+    }
+
+    // Logs an error: its record, and the kinds that it lists in the expected buffer.
+    pub fn log_error(&mut self, fault: Fault) -> Result<(), Stop>
+        ensures ended { ended self.new result ≡ run (log fault) self.old }
+        ensures lent { SameNodes self.old self.new }
+        ensures live { self.new.live ≡ self.old.live }
+    {
+        let count = self.list_length(fault);
+        let from = self.state.wanted as usize;
+        let i = self.state.errors as usize;
+        let room = (self.errors.len() / ERROR_WORDS).min(ERROR_LIMIT);
+        if room <= i {
+            return Err(Stop::Refused(Refusal::ErrorsFull));
+        }
+        let most = self.expected.len().min(EXPECTED_LIMIT);
+        if most < from + count {
+            return Err(Stop::Refused(Refusal::ErrorsFull));
+        }
+        let base = ERROR_WORDS * i;
+        self.errors[base + CLASS] = fault.class;
+        self.errors[base + FOUND] = fault.found;
+        self.errors[base + ERROR_START] = fault.span.start;
+        self.errors[base + ERROR_END] = fault.span.end;
+        self.errors[base + KINDS_FROM] = self.state.wanted;
+        self.errors[base + KINDS_COUNT] = count as u32;
+        let expected = &mut *self.expected;
+        copy_kinds(expected, from, &self.live, count);
+        self.state.errors += 1;
+        self.state.wanted = (from + count) as u32;
+        Ok(())
+    }
 }

@@ -10,6 +10,10 @@ use lib.Seq.{drop-cons}
 use lib.Bits.{bit_and, and_block, and_shifted, and_comm, and_zero_r}
 use lib.Dec.{ltb, eqb, lit<}
 use borrow.Author.Tests.{ltb-true, ltb-false, ne_eqb}
+use Rattle.std.specs.Prelude.{slice_index}
+use Rattle.std.specs.Int.{from_le_bytes}
+use Rattle.std.proofs.Common.{w64}
+use native.Mathlib.Nat.{add-zero}
 use Rattle.entry.specs.Utf8.{ascii, holds, fits}
 use Rattle.entry.specs.Little.{little}
 use Rattle.entry.proofs.Forms.{holds-in, holds-above}
@@ -35,6 +39,12 @@ little-eight t k p =
     let g = little-more t 1 (k + 6) (k + 7) (omega arith) (omega arith) in
     let h = little-more t 0 (k + 7) (k + 8) (omega arith) (omega arith) in
     omega (arith, a, b, c, d, e, f, g, h)
+
+-- std's number of eight bytes is the same
+pub little-read : (t : List ℕ) (k : ℕ) (bytes : List ℕ) → k + 8 ≤ length t → ((i : ℕ) → i < 8 → slice_index bytes i ≡ get_or t (k + i) 0) → from_le_bytes w64 bytes ≡ little (take 8 (drop k t))
+little-read t k bytes p e =
+    let here : slice_index bytes 0 ≡ get_or t k 0 = rw add-zero at (e 0 (lit< tt)) in
+    omega (arith, little-eight t k p, here, e 1 (lit< tt), e 2 (lit< tt), e 3 (lit< tt), e 4 (lit< tt), e 5 (lit< tt), e 6 (lit< tt), e 7 (lit< tt))
 
 -- the highest bits of so many bytes
 abbrev pub highs : ℕ → ℕ

@@ -7,10 +7,10 @@ use mathlib.Core.Bool.{Bool, true, false, cond, not, ◌&&◌, false≢true, tru
 use mathlib.Core.List.{List, [], ◌∷◌}
 use lib.ListN.{length, get_or, drop, replicate, drop_of_length-le}
 use lib.Seq.{drop-cons, drop-drop}
-use lib.Dec.{ltb, lit<}
-use borrow.Author.Tests.{ltb-true, ltb-false}
+use lib.Dec.{leb, ltb, lit<}
+use borrow.Author.Tests.{ltb-true, ltb-false, le-leb, lt-leb}
 use Rattle.entry.specs.Utf8.{Range, Form, tail, forms, holds, fits, first_fit, char_length, no_tail}
-use Rattle.entry.proofs.Forms.{holds-in, holds-below, holds-above, apart, parted, gap, only, nth}
+use Rattle.entry.proofs.Forms.{holds-in, apart, parted, gap, only, nth}
 
 module _ (r : Range) (f : Form) (t : List ℕ) (k : ℕ) where
   pub fits-past : length t ≤ k → fits (r ∷ f) (drop k t) ≡ false
@@ -29,15 +29,19 @@ module _ (r : Range) (f : Form) (t : List ℕ) (k : ℕ) where
   fits-here p = rw (drop-cons t k 0 p, add-one)
 
 module _ (r : Range) (t : List ℕ) (k : ℕ) (p : k < length t) where
-  pub byte-below : get_or t k 0 < r.low → fits (r ∷ []) (drop k t) ≡ false
-  byte-below q = fits-here r [] t k p ∙ rw (holds-below r _ q)
-
-  pub byte_above : r.high < get_or t k 0 → fits (r ∷ []) (drop k t) ≡ false
-  byte_above q = fits-here r [] t k p ∙ rw (holds-above r _ q)
-
-  pub byte-there : r.low ≤ get_or t k 0 → get_or t k 0 ≤ r.high → fits (r ∷ []) (drop k t) ≡ true
+  pub byte-here : fits (r ∷ []) (drop k t) ≡ leb r.low (get_or t k 0) && leb (get_or t k 0) r.high
   unfolding fits
-  byte-there q s = fits-here r [] t k p ∙ rw (holds-in r _ q s)
+  byte-here = fits-here r [] t k p ∙ and-true (leb r.low (get_or t k 0) && leb (get_or t k 0) r.high)
+    where
+      and-true : (x : Bool) → x && true ≡ x
+      and-true true = refl
+      and-true false = refl
+
+  pub byte-below : get_or t k 0 < r.low → fits (r ∷ []) (drop k t) ≡ false
+  byte-below q = byte-here ∙ rw (lt-leb _ _ q)
+
+  pub byte-from : r.low ≤ get_or t k 0 → fits (r ∷ []) (drop k t) ≡ leb (get_or t k 0) r.high
+  byte-from q = byte-here ∙ rw (le-leb _ _ q)
 
 -- what the first byte alone says of a longer form
 module _ (r : Range) (f : Form) where

@@ -1,13 +1,17 @@
 -- Each way through the tests of a token, of the tokens and of the whole, as an equation of the rule.
-use Prim.Native.Nat.{ℕ, suc, ◌+◌, ◌-◌, ◌/◌, ◌<◌, ◌≤◌}
+use Prim.Native.Nat.{ℕ, zero, suc, ◌+◌, ◌-◌, ◌*◌, ◌/◌, ◌<◌, ◌≤◌}
 use native.Mathlib.Omega.{arith}
-use mathlib.Core.Path.{◌≡◌, refl, ap, ◌∙◌}
+use mathlib.Core.Path.{◌≡◌, refl, sym, ap, ◌∙◌}
 use mathlib.Core.Bool.{Bool, true, false, not, ◌||◌}
 use mathlib.Core.List.{List, [], ◌∷◌}
 use lib.ListN.{length, get_or, take, drop, length-drop}
-use lib.Seq.{drop-cons, take_all}
-use lib.Dec.{leb, ltb, eqb}
+use lib.Seq.{drop-cons, drop-drop, take_all}
+use lib.Dec.{leb, ltb, eqb, lit<}
+use native.Mathlib.Nat.{add-zero}
+use Rattle.std.proofs.lemmas.List.{get_or-take, get_or-drop}
+use Rattle.std.specs.Simd.{first_chunks}
 use borrow.Author.Tests.{eq-eqb, ne_eqb, lt-ltb, le-ltb, le-leb, lt-leb, leb-false, ltb-false, not-false}
+use Rattle.std.specs.Prelude.{Result, Ok, Err}
 use Rattle.kinds.specs.Text.{part}
 use Rattle.entry.specs.Utf8.{tail, boundary, is_utf8, no_tail}
 use Rattle.entry.specs.Check.{max_text, max_tokens, last_kind, EOF, STR, RAW_STR, BYTE_STR, refuse, bad_kind, bad_range, is_quote, quoted, marked, bad_quotes, token_fault, or_else, tokens_fault, entry_of}
@@ -15,8 +19,6 @@ use Rattle.kinds.proofs.Logic.{neither, or-false}
 use Rattle.entry.proofs.Fits.{fits-past}
 use Rattle.entry.specs.declared.Refusal.{Refusal}
 use Rattle.entry.specs.declared.Refusal.TheVariants.{TextTooLong, TooManyTokens, NotUtf8, BadKind, BadRange, BadQuotes}
-use Rattle.entry.specs.declared.Entry.{Entry}
-use Rattle.entry.specs.declared.Entry.TheVariants.{Fit, Refused}
 
 pub kind-below : (k : ℕ) → k < EOF → bad_kind k ≡ false
 kind-below k p = rw (le-ltb last_kind k (omega arith), ne_eqb k EOF (λ e. omega (arith, e)))
@@ -88,12 +90,6 @@ pub end-past : (t : List ℕ) (end : ℕ) → length t ≤ end → ltb (length t
 unfolding no_tail
 end-past t end p = rw (fits-past tail [] t end p) (or-false (ltb (length t) end))
 
-pub quote-double : (b : ℕ) → b ≡ 0x22 → is_quote b ≡ true
-quote-double b p = rw (eq-eqb _ _ p)
-
-pub quote-other : (b : ℕ) → (b ≡ 0x22 → ⊥) → is_quote b ≡ eqb b 0x27
-quote-other b p = rw (ne_eqb _ _ p)
-
 module _ (s : List ℕ) where
   pub quoted-short : length s < 2 → quoted s ≡ false
   unfolding quoted
@@ -150,30 +146,30 @@ module _ (kind : ℕ) (s : List ℕ) where
   quotes-last low high p q = quotes-byte (omega (arith, p, q))
 
 module _ (at : ℕ → Bool) (text : List ℕ) (last kind start end : ℕ) where
-  pub fault-kind : bad_kind kind ≡ true → token_fault at text last kind start end ≡ Refused BadKind
+  pub fault-kind : bad_kind kind ≡ true → token_fault at text last kind start end ≡ Err BadKind
   unfolding token_fault
   fault-kind p = rw p
 
   module _ (p : bad_kind kind ≡ false) where
-    pub fault-range : bad_range at (length text) last start end ≡ true → token_fault at text last kind start end ≡ Refused BadRange
+    pub fault-range : bad_range at (length text) last start end ≡ true → token_fault at text last kind start end ≡ Err BadRange
     unfolding token_fault
     fault-range q = rw (p, q)
 
     module _ (q : bad_range at (length text) last start end ≡ false) where
-      pub fault-quotes : bad_quotes kind (part text start end) ≡ true → token_fault at text last kind start end ≡ Refused BadQuotes
+      pub fault-quotes : bad_quotes kind (part text start end) ≡ true → token_fault at text last kind start end ≡ Err BadQuotes
       unfolding token_fault
       fault-quotes r = rw (p, q, r)
 
-      pub fault-none : bad_quotes kind (part text start end) ≡ false → token_fault at text last kind start end ≡ Fit
+      pub fault-none : bad_quotes kind (part text start end) ≡ false → token_fault at text last kind start end ≡ Ok tt
       unfolding token_fault
       fault-none r = rw (p, q, r)
 
--- an answer `Fit` passed every test on the way, and its range ends between two characters
-pub refuse-fit : (b : Bool) (r : Refusal) (e : Entry) → refuse b r e ≡ Fit → (b ≡ false) × (e ≡ Fit)
+-- an answer `Ok` passed every test on the way, and its range ends between two characters
+pub refuse-fit : (b : Bool) (r : Refusal) (e : Result (Unit {0}) Refusal) → refuse b r e ≡ Ok tt → (b ≡ false) × (e ≡ Ok tt)
 refuse-fit true r e p = let z : ◌≡◌ {A = ℕ} 0 1 = cc in absurd (omega arith)
 refuse-fit false r e p = (refl, p)
 
-pub fit-ends : (at : ℕ → Bool) (text : List ℕ) (last kind start end : ℕ) → token_fault at text last kind start end ≡ Fit → at end ≡ true
+pub fit-ends : (at : ℕ → Bool) (text : List ℕ) (last kind start end : ℕ) → token_fault at text last kind start end ≡ Ok tt → at end ≡ true
 unfolding token_fault
 fit-ends at text last kind start end e =
     let four = refuse-fit (bad_kind kind) _ _ e in
@@ -181,7 +177,7 @@ fit-ends at text last kind start end e =
     (range-good at (length text) last start end five.0).ends
 
 module _ (at : ℕ → Bool) (text : List ℕ) (last : ℕ) where
-  tokens-short : (ws : List ℕ) → length ws < 3 → tokens_fault at text last ws ≡ Fit
+  tokens-short : (ws : List ℕ) → length ws < 3 → tokens_fault at text last ws ≡ Ok tt
   unfolding tokens_fault
   tokens-short [] p = refl
   tokens-short (k ∷ []) p = refl
@@ -189,7 +185,7 @@ module _ (at : ℕ → Bool) (text : List ℕ) (last : ℕ) where
   tokens-short (k ∷ s ∷ e ∷ ws) p = absurd (omega arith)
 
   module _ (ws : List ℕ) (i : ℕ) where
-    pub tokens-end : length ws - i < 3 → tokens_fault at text last (drop i ws) ≡ Fit
+    pub tokens-end : length ws - i < 3 → tokens_fault at text last (drop i ws) ≡ Ok tt
     tokens-end p = tokens-short (drop i ws) (rw (length-drop i ws) p)
 
     -- three words at place i are a token, and the tokens go on three words later
@@ -208,26 +204,56 @@ module _ (at : ℕ → Bool) (text : List ℕ) (last : ℕ) where
         rw all
 
     module _ (p : 3 ≤ length ws - i) where
-      pub tokens-next : token_fault at text last (get_or ws i 0) (get_or ws (i + 1) 0) (get_or ws (i + 2) 0) ≡ Fit
+      pub tokens-next : token_fault at text last (get_or ws i 0) (get_or ws (i + 1) 0) (get_or ws (i + 2) 0) ≡ Ok tt
           → tokens_fault at text last (drop i ws) ≡ tokens_fault at text (get_or ws (i + 2) 0) (drop (i + 3) ws)
       tokens-next e = tokens-more p ∙ rw e
 
-      pub tokens-bad : {r : Refusal} → token_fault at text last (get_or ws i 0) (get_or ws (i + 1) 0) (get_or ws (i + 2) 0) ≡ Refused r
-          → tokens_fault at text last (drop i ws) ≡ Refused r
+      pub tokens-bad : {r : Refusal} → token_fault at text last (get_or ws i 0) (get_or ws (i + 1) 0) (get_or ws (i + 2) 0) ≡ Err r
+          → tokens_fault at text last (drop i ws) ≡ Err r
       tokens-bad e = tokens-more p ∙ rw e
 
+-- the i-th chunk of three is what stands three times as far on
+chunk : (k : ℕ) (ws : List ℕ) (i : ℕ) → i < k → get_or (first_chunks 3 k ws) i [] ≡ take 3 (drop (3 * i) ws)
+chunk zero ws i h = absurd (omega arith)
+chunk (suc k) ws zero h = refl
+chunk (suc k) ws (suc i) h =
+    let further : 3 * suc i ≡ 3 + 3 * i = omega arith in
+    chunk k (drop 3 ws) i (omega arith) ∙ rw (drop-drop (3 * i) 3 ws, further)
+
+module _ (at : ℕ → Bool) (text : List ℕ) (last : ℕ) (ws : List ℕ) (i : ℕ) where
+  pub chunks-end : length ws / 3 ≤ i → tokens_fault at text last (drop (3 * i) ws) ≡ Ok tt
+  chunks-end h = tokens-end at text last ws (3 * i) (omega arith)
+
+  module _ {chunks : List (List ℕ)} (are : chunks ≡ first_chunks 3 (length ws / 3) ws) (h : i < length ws / 3) where
+    word : (m : ℕ) → m < 3 → get_or (get_or chunks i []) m 0 ≡ get_or ws (3 * i + m) 0
+    word m l = rw (are, chunk (length ws / 3) ws i h) (get_or-take 3 (drop (3 * i) ws) m 0 l ∙ get_or-drop (3 * i) ws m 0)
+
+    fault : token_fault at text last (get_or (get_or chunks i []) 0 0) (get_or (get_or chunks i []) 1 0) (get_or (get_or chunks i []) 2 0)
+        ≡ token_fault at text last (get_or ws (3 * i) 0) (get_or ws (3 * i + 1) 0) (get_or ws (3 * i + 2) 0)
+    fault = let first : get_or (get_or chunks i []) 0 0 ≡ get_or ws (3 * i) 0 = rw add-zero at (word 0 (lit< tt)) in rw (first, word 1 (lit< tt), word 2 (lit< tt))
+
+    pub chunk-next : token_fault at text last (get_or (get_or chunks i []) 0 0) (get_or (get_or chunks i []) 1 0) (get_or (get_or chunks i []) 2 0) ≡ Ok tt
+        → tokens_fault at text last (drop (3 * i) ws) ≡ tokens_fault at text (get_or (get_or chunks i []) 2 0) (drop (3 * (i + 1)) ws)
+    chunk-next e =
+        let further : 3 * (i + 1) ≡ 3 * i + 3 = omega arith in
+        rw (word 2 (lit< tt), further) (tokens-next at text last ws (3 * i) (omega arith) (sym fault ∙ e))
+
+    pub chunk-bad : {r : Refusal} → token_fault at text last (get_or (get_or chunks i []) 0 0) (get_or (get_or chunks i []) 1 0) (get_or (get_or chunks i []) 2 0) ≡ Err r
+        → tokens_fault at text last (drop (3 * i) ws) ≡ Err r
+    chunk-bad e = tokens-bad at text last ws (3 * i) (omega arith) (sym fault ∙ e)
+
 module _ (text tokens : List ℕ) where
-  pub entry-long : max_text < length text → entry_of text tokens ≡ Refused TextTooLong
+  pub entry-long : max_text < length text → entry_of text tokens ≡ Err TextTooLong
   unfolding entry_of
   entry-long p = rw (lt-ltb _ _ p)
 
   module _ (p : length text ≤ max_text) where
-    pub entry-many : max_tokens < length tokens / 3 → entry_of text tokens ≡ Refused TooManyTokens
+    pub entry-many : max_tokens < length tokens / 3 → entry_of text tokens ≡ Err TooManyTokens
     unfolding entry_of
     entry-many q = rw (le-ltb _ _ p, lt-ltb _ _ q)
 
     module _ (q : length tokens / 3 ≤ max_tokens) where
-      pub entry-bytes : is_utf8 text ≡ false → entry_of text tokens ≡ Refused NotUtf8
+      pub entry-bytes : is_utf8 text ≡ false → entry_of text tokens ≡ Err NotUtf8
       unfolding entry_of
       entry-bytes r = rw (le-ltb _ _ p, le-ltb _ _ q, r)
 

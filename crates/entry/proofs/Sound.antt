@@ -1,4 +1,4 @@
--- What is known once the answer is `Fit`.
+-- What is known once the answer is `Ok`.
 use Prim.Native.Nat.{ℕ, zero, suc, ◌+◌, ◌-◌, ◌*◌, ◌<◌, ◌≤◌}
 use native.Mathlib.Omega.{arith}
 use mathlib.Core.Path.{◌≡◌, refl, sym, ◌∙◌}
@@ -7,20 +7,20 @@ use mathlib.Core.List.{List, [], ◌∷◌}
 use lib.ListN.{length, get_or, drop, length-take}
 use lib.Dec.{leb, ltb, eqb}
 use borrow.Author.Tests.{leb-true, ltb-false, eqb-false, eqb-true, not-false}
+use Rattle.std.specs.Prelude.{Result, Ok, Err}
 use Rattle.kinds.specs.Text.{part}
 use Rattle.entry.specs.Utf8.{boundary, is_utf8}
+use Rattle.entry.specs.declared.Refusal.{Refusal}
 use Rattle.entry.specs.Check.{max_text, max_tokens, last_kind, EOF, STR, RAW_STR, BYTE_STR, bad_kind, bad_range, is_quote, quoted, marked, bad_quotes, token_fault, or_else, tokens_fault, entry_of}
 use Rattle.entry.specs.Sound.{kind_of, start_of, end_of, count, Token, Sheet}
 use Rattle.kinds.proofs.Logic.{both, neither}
 use Rattle.entry.proofs.Paths.{range-good, refuse-fit, quotes-str, quotes-raw, quotes-byte}
 use Rattle.entry.proofs.Grammar.{boundary-sound, utf8-decides}
-use Rattle.entry.specs.declared.Entry.{Entry}
-use Rattle.entry.specs.declared.Entry.TheVariants.{Fit, Refused}
 
--- an answer `Fit` passed every token
-or-else-fit : (a b : Entry) → or_else a b ≡ Fit → (a ≡ Fit) × (b ≡ Fit)
-or-else-fit Fit b p = (refl, p)
-or-else-fit (Refused r) b p = let z : ◌≡◌ {A = ℕ} 0 1 = cc in absurd (omega arith)
+-- an answer `Ok` passed every token
+or-else-fit : (a b : Result (Unit {0}) Refusal) → or_else a b ≡ Ok tt → (a ≡ Ok tt) × (b ≡ Ok tt)
+or-else-fit (Ok u) b p = (refl, p)
+or-else-fit (Err r) b p = let z : ◌≡◌ {A = ℕ} 0 1 = cc in absurd (omega arith)
 
 -- the part of a range in the text is as long as the range
 part_length : (text : List ℕ) (start end : ℕ) → end ≤ length text → length (part text start end) ≤ end - start
@@ -55,7 +55,7 @@ module _ (text : List ℕ) (kind start end : ℕ) (inside : end ≤ length text)
       omega arith
 
 -- a token that is fit, after one that ended at `last`
-token-fit : (text : List ℕ) (last kind start end : ℕ) → token_fault (boundary text) text last kind start end ≡ Fit → Token text kind start end × (last ≤ start)
+token-fit : (text : List ℕ) (last kind start end : ℕ) → token_fault (boundary text) text last kind start end ≡ Ok tt → Token text kind start end × (last ≤ start)
 unfolding token_fault
 token-fit text last kind start end e =
     let four = refuse-fit (bad_kind kind) _ _ e in
@@ -98,7 +98,7 @@ module _ (k s n : ℕ) (more : List ℕ) where
   before_on zero = refl
   before_on (suc i) = end_on i
 
-tokens-fit : (text : List ℕ) (last : ℕ) (tokens : List ℕ) → tokens_fault (boundary text) text last tokens ≡ Fit → (i : ℕ) → i < count tokens
+tokens-fit : (text : List ℕ) (last : ℕ) (tokens : List ℕ) → tokens_fault (boundary text) text last tokens ≡ Ok tt → (i : ℕ) → i < count tokens
     → Token text (kind_of tokens i) (start_of tokens i) (end_of tokens i) × (before last tokens i ≤ start_of tokens i)
 unfolding tokens_fault before
 tokens-fit text last [] e i p = absurd (omega arith)
@@ -128,9 +128,9 @@ module _ (text tokens : List ℕ)
           let b = (each j (omega arith)).0.filled in
           omega (arith, next)
 
--- the tests that an answer `Fit` passed
-passed : (text tokens : List ℕ) → entry_of text tokens ≡ Fit
-    → (ltb max_text (length text) ≡ false) × (ltb max_tokens (count tokens) ≡ false) × (not (is_utf8 text) ≡ false) × (tokens_fault (boundary text) text 0 tokens ≡ Fit)
+-- the tests that an answer `Ok` passed
+passed : (text tokens : List ℕ) → entry_of text tokens ≡ Ok tt
+    → (ltb max_text (length text) ≡ false) × (ltb max_tokens (count tokens) ≡ false) × (not (is_utf8 text) ≡ false) × (tokens_fault (boundary text) text 0 tokens ≡ Ok tt)
 unfolding entry_of
 passed text tokens e =
     let one = refuse-fit (ltb max_text (length text)) _ _ e in
@@ -138,7 +138,7 @@ passed text tokens e =
     let three = refuse-fit (not (is_utf8 text)) _ _ two.1 in
     (one.0, two.0, three.0, three.1)
 
-pub fit-sheet : (text tokens : List ℕ) → entry_of text tokens ≡ Fit → Sheet text tokens
+pub fit-sheet : (text tokens : List ℕ) → entry_of text tokens ≡ Ok tt → Sheet text tokens
 fit-sheet text tokens e =
     let h = passed text tokens e in
     let each = tokens-fit text 0 tokens h.3 in

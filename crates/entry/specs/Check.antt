@@ -1,11 +1,9 @@
 -- When a text and its tokens are fit to read, and the refusals 1 to 6.
-use Rattle.std.specs.Prelude.{ℕ, ◌-◌, ◌/◌, Bool, true, false, cond, not, ◌&&◌, ◌||◌, List, [], ◌∷◌, length, get_or, leb, ltb, eqb}
+use Rattle.std.specs.Prelude.{ℕ, ◌-◌, ◌/◌, Bool, true, false, cond, not, ◌&&◌, ◌||◌, List, [], ◌∷◌, length, get_or, leb, ltb, eqb, Result, Ok, Err}
 use Rattle.kinds.specs.Text.{part}
 use Rattle.entry.specs.Utf8.{boundary, is_utf8}
 use Rattle.entry.specs.declared.Refusal.{Refusal}
 use Rattle.entry.specs.declared.Refusal.TheVariants.{TextTooLong, TooManyTokens, NotUtf8, BadKind, BadRange, BadQuotes}
-use Rattle.entry.specs.declared.Entry.{Entry}
-use Rattle.entry.specs.declared.Entry.TheVariants.{Fit, Refused}
 
 -- the document's number of a refusal
 abbrev pub refusal_number : Refusal → ℕ
@@ -17,9 +15,9 @@ refusal_number BadRange = 5
 refusal_number BadQuotes = 6
 
 -- the document's number of an answer: 0 for a sheet that is fit to read
-abbrev pub number : Entry → ℕ
-number Fit = 0
-number (Refused r) = refusal_number r
+abbrev pub number : Result (Unit {0}) Refusal → ℕ
+number (Ok u) = 0
+number (Err r) = refusal_number r
 
 -- the limits, and the kinds that the check names
 abbrev pub max_text : ℕ
@@ -44,8 +42,8 @@ abbrev pub BYTE_STR : ℕ
 BYTE_STR = 9
 
 -- a refusal where its case is given, else what the later tests say
-abbrev pub refuse : Bool → Refusal → Entry → Entry
-refuse true r e = Refused r
+abbrev pub refuse : Bool → Refusal → Result (Unit {0}) Refusal → Result (Unit {0}) Refusal
+refuse true r e = Err r
 refuse false r e = e
 
 -- 4: a kind above the last, or Eof
@@ -77,25 +75,25 @@ bad_quotes kind s =
     (cond (eqb kind RAW_STR) (not (marked 0x72 s)) (cond (eqb kind BYTE_STR) (not (marked 0x62 s)) false))
 
 -- a token after one that ended at `last`: 4, 5 and 6 in order
-unfoldable pub token_fault : (ℕ → Bool) → List ℕ → ℕ → ℕ → ℕ → ℕ → Entry
+unfoldable pub token_fault : (ℕ → Bool) → List ℕ → ℕ → ℕ → ℕ → ℕ → Result (Unit {0}) Refusal
 token_fault at text last kind start end =
     refuse (bad_kind kind) BadKind
-    (refuse (bad_range at (length text) last start end) BadRange (refuse (bad_quotes kind (part text start end)) BadQuotes Fit))
+    (refuse (bad_range at (length text) last start end) BadRange (refuse (bad_quotes kind (part text start end)) BadQuotes (Ok tt)))
 
 -- the first bad token decides
-abbrev pub or_else : Entry → Entry → Entry
-or_else Fit e = e
-or_else (Refused r) e = Refused r
+abbrev pub or_else : Result (Unit {0}) Refusal → Result (Unit {0}) Refusal → Result (Unit {0}) Refusal
+or_else (Ok u) e = e
+or_else (Err r) e = Err r
 
 -- token by token, three words each: kind, start, end. What is left over at the end is no token
-unfoldable pub tokens_fault : (ℕ → Bool) → List ℕ → ℕ → List ℕ → Entry
-tokens_fault at text last [] = Fit
-tokens_fault at text last (kind ∷ []) = Fit
-tokens_fault at text last (kind ∷ start ∷ []) = Fit
+unfoldable pub tokens_fault : (ℕ → Bool) → List ℕ → ℕ → List ℕ → Result (Unit {0}) Refusal
+tokens_fault at text last [] = Ok tt
+tokens_fault at text last (kind ∷ []) = Ok tt
+tokens_fault at text last (kind ∷ start ∷ []) = Ok tt
 tokens_fault at text last (kind ∷ start ∷ end ∷ more) = or_else (token_fault at text last kind start end) (tokens_fault at text end more)
 
 -- the answer: 1, 2 and 3 in order, then the tokens
-unfoldable pub entry_of : List ℕ → List ℕ → Entry
+unfoldable pub entry_of : List ℕ → List ℕ → Result (Unit {0}) Refusal
 entry_of text tokens =
     refuse (ltb max_text (length text)) TextTooLong
     (refuse (ltb max_tokens (length tokens / 3)) TooManyTokens

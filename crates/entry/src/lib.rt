@@ -7,21 +7,15 @@ ghost use Rattle.entry.specs.Utf8.{ascii, tail, between, fits, char_length, asci
 ghost use Rattle.entry.specs.Little.{little};
 ghost use Rattle.entry.specs.Check.{refusal_number, bad_kind, bad_range, is_quote, quoted, marked, bad_quotes, token_fault, tokens_fault, entry_of};
 
-// The refusals, in the order of their numbers.
-#[derive(Clone, Copy)]
+// The refusals, each with the number that the document gives it.
+#[derive(Clone, Copy, Debug, PartialEq, Eq)]
 pub enum Refusal {
-    TextTooLong,
-    TooManyTokens,
-    NotUtf8,
-    BadKind,
-    BadRange,
-    BadQuotes,
-}
-
-#[derive(Clone, Copy)]
-pub enum Entry {
-    Fit,
-    Refused(Refusal),
+    TextTooLong = 1,
+    TooManyTokens = 2,
+    NotUtf8 = 3,
+    BadKind = 4,
+    BadRange = 5,
+    BadQuotes = 6,
 }
 
 // The limits.
@@ -43,49 +37,30 @@ const RAW_STR: u32 = kinds::RAW_STR as u32;
 
 const BYTE_STR: u32 = kinds::BYTE_STR as u32;
 
-// The number that the document gives a refusal.
 pub fn refusal_number(r: Refusal) -> u8
     ensures { result ≡ refusal_number r }
 {
-    match r {
-        Refusal::TextTooLong => 1,
-        Refusal::TooManyTokens => 2,
-        Refusal::NotUtf8 => 3,
-        Refusal::BadKind => 4,
-        Refusal::BadRange => 5,
-        Refusal::BadQuotes => 6,
-    }
+    r as u8
 }
 
 // Whether a byte from `low` to `high` stands at `at`.
 fn byte_in(text: &[u8], at: usize, low: u8, high: u8) -> bool
     ensures { result ≡ fits (between low high ∷ []) (drop at text.now) }
 {
-    if text.len() <= at {
-        return false;
+    match text.get(at) {
+        Some(&b) => low <= b && b <= high,
+        None => false,
     }
-    let b = text[at];
-    if b < low {
-        return false;
-    }
-    if high < b {
-        return false;
-    }
-    true
 }
 
 // Whether `count` tails stand from `at` on.
 fn tails(text: &[u8], at: usize, count: u8) -> bool
     ensures { result ≡ fits (replicate count tail) (drop at text.now) }
 {
-    let mut next = at;
-    let mut left = count;
-    while 0 < left {
-        if !byte_in(text, next, 0x80, 0xBF) {
+    for i in 0..usize::from(count) {
+        if !byte_in(text, at + i, 0x80, 0xBF) {
             return false;
         }
-        next += 1;
-        left -= 1;
     }
     true
 }
@@ -100,7 +75,8 @@ fn follow(text: &[u8], at: usize, low: u8, high: u8, more: u8) -> bool
     tails(text, at + 1, more)
 }
 
-// The length of a character whose first byte was seen, or 0 where the rest of it is not as it should be.
+// The length of a character whose first byte was seen, or 0 where the rest of it is not as it should be. A 0 and no Option, here and below: it is the
+// answer of the definition `char_length`, on which the theorem `utf8-decides` rests.
 fn whole(length: usize, complete: bool) -> usize
     ensures { result ≡ cond complete length 0 }
 {
@@ -136,36 +112,15 @@ fn char_length(text: &[u8], at: usize) -> usize
     }
 }
 
-fn wide(b: u8) -> u64
-    ensures { result ≡ b }
-{
-    b as u64
-}
-
-// The number that eight bytes spell, the lowest first. The compiler reads it at once.
-fn eight(text: &[u8], at: usize) -> u64
-    requires { at + 8 ≤ length text.now }
-    ensures { result ≡ little (take 8 (drop at text.now)) }
-{
-    wide(text[at])
-        + 0x100 * wide(text[at + 1])
-        + 0x1_0000 * wide(text[at + 2])
-        + 0x100_0000 * wide(text[at + 3])
-        + 0x1_0000_0000 * wide(text[at + 4])
-        + 0x100_0000_0000 * wide(text[at + 5])
-        + 0x1_0000_0000_0000 * wide(text[at + 6])
-        + 0x100_0000_0000_0000 * wide(text[at + 7])
-}
-
-// Whether eight bytes from `at` on are a character each: one test for all of them.
+// Whether eight bytes from `at` on are a character each: one load and one test for all of them.
 fn eight_ascii(text: &[u8], at: usize) -> bool
     requires { at ≤ length text.now }
     ensures { result ≡ fits (replicate 8 ascii) (drop at text.now) }
 {
-    if text.len() - at < 8 {
+    let Some(bytes) = text[at..].first_chunk::<8>() else {
         return false;
-    }
-    eight(text, at) & HIGH_BITS == 0
+    };
+    u64::from_le_bytes(*bytes) & HIGH_BITS == 0
 }
 
 // The first place from `from` on whose byte is no character by itself, or the text's end. Most bytes are one, so they are passed in turns of a few
@@ -174,6 +129,7 @@ fn past_ascii(text: &[u8], from: usize) -> usize
     requires { from ≤ length text.now }
     ensures { result ≡ from + ascii_run (drop from text.now) }
 {
+    // Two loops over a place and no iterator: `char_length` goes on from that place.
     let mut at = from;
     while eight_ascii(text, at) {
         at += 8;
@@ -264,45 +220,35 @@ fn bad_range(text: &[u8], last: u32, start: u32, end: u32) -> bool
 fn is_quote(b: u8) -> bool
     ensures { result ≡ is_quote b }
 {
-    if b == b'"' {
-        return true;
-    }
-    b == b'\''
+    b == b'"' || b == b'\''
 }
 
 // Whether the first and the last of two bytes or more are the same quote.
 fn quotes(s: &[u8]) -> bool
     ensures { result ≡ quoted s.now }
 {
-    let n = s.len();
-    if n < 2 {
-        return false;
+    match s {
+        [first, .., last] => is_quote(*first) && first == last,
+        _ => false,
     }
-    let first = s[0];
-    if !is_quote(first) {
-        return false;
-    }
-    first == s[n - 1]
 }
 
 // The same after a letter.
 fn marks(letter: u8, s: &[u8]) -> bool
     ensures { result ≡ marked letter s.now }
 {
-    if s.len() == 0 {
-        return false;
+    match s {
+        [first, rest @ ..] => *first == letter && quotes(rest),
+        [] => false,
     }
-    if s[0] != letter {
-        return false;
-    }
-    quotes(&s[1..])
 }
 
 // 6: a Str, RawStr or ByteStr that is not quoted as its kind asks.
 fn bad_quotes(kind: u32, s: &[u8]) -> bool
     ensures { result ≡ bad_quotes kind s.now }
 {
-    // The three kinds stand side by side and most tokens are of none of them, which the compiler makes one test of.
+    // The three kinds stand side by side and most tokens are of none of them, which the compiler makes one test of; a `match` took five
+    // instructions more for a token.
     if kind < STR {
         return false;
     }
@@ -318,59 +264,48 @@ fn bad_quotes(kind: u32, s: &[u8]) -> bool
     !marks(b'b', s)
 }
 
-// The fault of a token after one that ended at `last`.
-fn token_fault(text: &[u8], last: u32, kind: u32, start: u32, end: u32) -> Entry
+// Whether a token after one that ended at `last` is fit to read: 4, 5 and 6 in order.
+fn check_token(text: &[u8], last: u32, kind: u32, start: u32, end: u32) -> Result<(), Refusal>
     requires { no_tail text.now last ≡ true }
     ensures { result ≡ token_fault (no_tail text.now) text.now last kind start end }
 {
     if bad_kind(kind) {
-        return Entry::Refused(Refusal::BadKind);
+        return Err(Refusal::BadKind);
     }
     if bad_range(text, last, start, end) {
-        return Entry::Refused(Refusal::BadRange);
+        return Err(Refusal::BadRange);
     }
-    let from = start as usize;
-    let to = end as usize;
-    if bad_quotes(kind, &text[from..to]) {
-        return Entry::Refused(Refusal::BadQuotes);
+    if bad_quotes(kind, &text[start as usize..end as usize]) {
+        return Err(Refusal::BadQuotes);
     }
-    Entry::Fit
+    Ok(())
 }
 
-// The fault of the first bad token.
-fn tokens_fault(text: &[u8], tokens: &[u32]) -> Entry
+// The first bad token decides.
+fn check_tokens(text: &[u8], tokens: &[u32]) -> Result<(), Refusal>
     requires { no_tail text.now 0 ≡ true }
     ensures { result ≡ tokens_fault (no_tail text.now) text.now 0 tokens.now }
 {
-    let mut at: usize = 0;
     let mut last: u32 = 0;
-    while 3 <= tokens.len() - at {
-        let kind = tokens[at];
-        let start = tokens[at + 1];
-        let end = tokens[at + 2];
-        let found = token_fault(text, last, kind, start, end);
-        match found {
-            Entry::Fit => {}
-            Entry::Refused(r) => return Entry::Refused(r),
-        }
+    for &[kind, start, end] in tokens.as_chunks::<3>().0 {
+        check_token(text, last, kind, start, end)?;
         last = end;
-        at += 3;
     }
-    Entry::Fit
+    Ok(())
 }
 
 // Whether a text and its tokens are fit to read: refusals 1 to 3 in order, then 4 to 6 token by token.
-pub fn entry_check(text: &[u8], tokens: &[u32]) -> Entry
+pub fn entry_check(text: &[u8], tokens: &[u32]) -> Result<(), Refusal>
     ensures { result ≡ entry_of text.now tokens.now }
 {
     if MAX_TEXT < text.len() {
-        return Entry::Refused(Refusal::TextTooLong);
+        return Err(Refusal::TextTooLong);
     }
     if MAX_TOKENS < tokens.len() / 3 {
-        return Entry::Refused(Refusal::TooManyTokens);
+        return Err(Refusal::TooManyTokens);
     }
     if !is_utf8(text) {
-        return Entry::Refused(Refusal::NotUtf8);
+        return Err(Refusal::NotUtf8);
     }
-    tokens_fault(text, tokens)
+    check_tokens(text, tokens)
 }

@@ -5,6 +5,9 @@
 
 ghost use Rattle.std.specs.Prelude.{◌≤◌};
 
+use std::io;
+use std::io::Write;
+
 const TEXT: usize = 65600;
 
 const WORDS: usize = 12400;
@@ -17,46 +20,37 @@ struct Case {
     words: usize,
 }
 
-fn wide(b: u8) -> u32 {
-    b as u32
-}
-
 // The word at `at`; 0 where the input ends before it does.
 fn word_at(input: &[u8], at: usize) -> u32 {
-    if input.len() <= at {
+    let Some(rest) = input.get(at..) else {
         return 0;
+    };
+    match rest.first_chunk::<4>() {
+        Some(word) => u32::from_le_bytes(*word),
+        None => 0,
     }
-    if input.len() - at < 4 {
-        return 0;
-    }
-    wide(input[at])
-        | wide(input[at + 1]) << 8
-        | wide(input[at + 2]) << 16
-        | wide(input[at + 3]) << 24
 }
 
 fn byte_at(input: &[u8], at: usize) -> u8 {
-    if at < input.len() { input[at] } else { 0 }
+    input.get(at).copied().unwrap_or(0)
 }
 
 fn put(text: &mut [u8], at: usize, b: u8) {
-    if at < text.len() {
-        text[at] = b;
+    if let Some(byte) = text.get_mut(at) {
+        *byte = b;
     }
 }
 
 fn put_word(words: &mut [u32], at: usize, w: u32) {
-    if at < words.len() {
-        words[at] = w;
+    if let Some(word) = words.get_mut(at) {
+        *word = w;
     }
 }
 
 // `count` times the byte `b`, from the start of the text on.
 fn fill(text: &mut [u8], b: u8, count: u32) {
-    let mut i: u32 = 0;
-    while i < count {
+    for i in 0..count {
         put(text, i as usize, b);
-        i += 1;
     }
 }
 
@@ -68,23 +62,18 @@ fn copy(input: &[u8], text: &mut [u8], from: usize, to: usize, count: u32) {
     if text.len() < to {
         return;
     }
-    let mut i: u32 = 0;
-    while i < count {
-        let k = i as usize;
-        put(text, to + k, byte_at(input, from + k));
-        i += 1;
+    for i in 0..count as usize {
+        put(text, to + i, byte_at(input, from + i));
     }
 }
 
 // `count` tokens of one kind, one byte each, from the start of the words on.
 fn run(words: &mut [u32], kind: u32, count: u32) {
-    let mut i: u32 = 0;
-    while i < count {
+    for i in 0..count {
         let at = i as usize * 3;
         put_word(words, at, kind);
         put_word(words, at + 1, i);
         put_word(words, at + 2, i + 1);
-        i += 1;
     }
 }
 
@@ -96,11 +85,8 @@ fn copy_words(input: &[u8], words: &mut [u32], from: usize, to: usize, count: u3
     if words.len() < to {
         return;
     }
-    let mut i: u32 = 0;
-    while i < count {
-        let k = i as usize;
-        put_word(words, to + k, word_at(input, from + 4 * k));
-        i += 1;
+    for i in 0..count as usize {
+        put_word(words, to + i, word_at(input, from + 4 * i));
     }
 }
 
@@ -144,8 +130,8 @@ fn answer(text: &[u8], words: &[u32], case: Case) -> u8 {
         return 255;
     }
     match entry::entry_check(&text[..size], &words[..count]) {
-        entry::Entry::Fit => 0,
-        entry::Entry::Refused(r) => entry::refusal_number(r),
+        Ok(()) => 0,
+        Err(refusal) => entry::refusal_number(refusal),
     }
 }
 
@@ -153,11 +139,7 @@ fn answer(text: &[u8], words: &[u32], case: Case) -> u8 {
 fn missed(text: &[u8], words: &[u32], case: Case, want: u8) -> u64
     ensures { result ≤ 1 }
 {
-    if answer(text, words, case) == want {
-        0
-    } else {
-        1
-    }
+    u64::from(answer(text, words, case) != want)
 }
 
 #[derive(Clone, Copy)]
@@ -184,14 +166,12 @@ fn judge(input: &[u8], text: &mut [u8], words: &mut [u32]) -> Tally {
     Tally { cases, wrong }
 }
 
-fn main() {
-    let mut input = io::large_buffer();
-    let size = io::read_full(0, &mut input);
+fn main(rt: HostRuntime) -> io::Result<()> {
+    let mut input = [0u8; 65536];
+    let size = pieces::fill(&mut rt.reader(), &mut input);
     let mut text = [0u8; TEXT];
     let mut words = [0u32; WORDS];
     let tally = judge(&input[..size], &mut text, &mut words);
-    io::print_decimal(1, tally.cases);
-    io::write_all(1, b" cases, ");
-    io::print_decimal(1, tally.wrong);
-    io::write_all(1, b" wrong\n");
+    let Tally { cases, wrong } = tally;
+    writeln!(io::writer(&rt), "{cases} cases, {wrong} wrong")
 }

@@ -1,2 +1,3 @@
+pub mod Forms
 pub mod Suffixes
 pub mod Unique

@@ -1,10 +1,10 @@
 -- Atoms are unambiguous: the first token tells the production, but for `{`. There a table has a key behind its Eols, or its end, and a block has neither.
+use Rattle.std.specs.Prelude.{None}
 use Prim.Native.Nat.{ℕ}
 use mathlib.Core.Path.{◌≡◌, refl, sym, subst}
 use mathlib.Core.List.{List}
 use mathlib.Core.Bool.{true, false}
 use Rattle.kinds.specs.Number as kind
-use Rattle.cursor.specs.declared.Ranged.TheVariants as ranged
 use Rattle.cursor.specs.Node as node
 use Rattle.cursor.specs.Tree.{none, join}
 use Rattle.grammar.specs.Places.{Place, kind_of, start_of, Tok, Not}
@@ -121,13 +121,13 @@ module _ {text : List ℕ} where
   same (at_literal d) b (at_literal d') e = let r = lit d d' e in one_form (record { ends = r.ends; shapes = λ x so. value r })
   same (at_fn a d) b (at_fn a' d') e =
       let r = b.agrees d' (step a a' e) in
-      one_form (record { ends = r.ends; shapes = λ x so i. fn_over (start_of (e i)) (r.ends i) ranged.Nowhere none (r.shapes (start_of (e i)) blank i) })
+      one_form (record { ends = r.ends; shapes = λ x so i. fn_over (start_of (e i)) (r.ends i) None none (r.shapes (start_of (e i)) blank i) })
   same (at-closure d) b (at-closure d') e =
       let r = b.agrees d' e in
-      one_form (record { ends = r.ends; shapes = λ x so i. fn_over (start_of (e i)) (r.ends i) ranged.Nowhere none (r.shapes (start_of (e i)) blank i) })
+      one_form (record { ends = r.ends; shapes = λ x so i. fn_over (start_of (e i)) (r.ends i) None none (r.shapes (start_of (e i)) blank i) })
   same (at-do a d) b (at-do a' d') e =
       let r = b.agrees d' (step a a' e) in
-      one_form (record { ends = r.ends; shapes = λ x so i. fn_over (start_of (e i)) (r.ends i) ranged.Nowhere none (over node.Do (start_of (e i)) (r.ends i) (value r i)) })
+      one_form (record { ends = r.ends; shapes = λ x so i. fn_over (start_of (e i)) (r.ends i) None none (over node.Do (start_of (e i)) (r.ends i) (value r i)) })
   same (at-if a d f k) b (at-if a' d' f' k') e =
       let r = b.0.agrees d' (step a a' e) in
       let t = b.1.agrees f' r.ends in

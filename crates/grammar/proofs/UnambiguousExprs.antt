@@ -1,5 +1,6 @@
 -- Expressions are unambiguous above their atoms: operators, unary forms, calls and members. Their forms come out the same.
 -- What is derived of one sheet (Examples) is checked first, so that a wrong level is refused there.
+use Rattle.std.specs.Prelude.{Some}
 use Prim.Native.Nat.{ℕ, ◌+◌, ◌<◌, ◌≤◌}
 use mathlib.Core.Path.{◌≡◌, refl, sym, ap, ◌∙◌}
 use mathlib.Core.List.{List}
@@ -9,7 +10,6 @@ use Rattle.kinds.specs.Number as kind
 use Rattle.kinds.specs.Operators.{level_of}
 use Rattle.cursor.specs.Node as node
 use Rattle.cursor.specs.Tree.{join}
-use Rattle.parts.specs.declared.steps.Checked.TheVariants as checked
 use Rattle.parts.specs.Steps.{checked_type}
 use Rattle.grammar.specs.Places.{Place, kind_of, span_of, start_of, after}
 use Rattle.grammar.specs.Symbols.{Form, Expr, Prec, Ops, Unary, Primary}
@@ -31,7 +31,7 @@ none_here {n} {m} {k} {p} {u} h l a c e = omega (arith, h, l, c, same)
     same : level_of (kind_of p) ≡ level_of k
     same = ap (λ w. level_of (kind_of w)) e ∙ ap level_of a
 
-one_word : (a b : ℕ) → checked.Type a ≡ checked.Type b → a ≡ b
+one_word : (a b : ℕ) → Some a ≡ Some b → a ≡ b
 one_word a b e = cc
 
 module _ {text : List ℕ} where

@@ -1,4 +1,5 @@
 -- Calls and members are unambiguous: the first token tells the production, and of a member whether `#` stands behind it.
+use Rattle.std.specs.Prelude.{Some, None}
 use Prim.Native.Nat.{ℕ, ◌+◌}
 use mathlib.Core.Path.{◌≡◌, refl, sym, ap, subst, ◌∙◌}
 use mathlib.Core.List.{List}
@@ -6,7 +7,6 @@ use mathlib.Core.Bool.{Bool, true, false}
 use lib.Dec.{eqb}
 use borrow.Author.Tests.{ne_eqb}
 use Rattle.kinds.specs.Number as kind
-use Rattle.cursor.specs.declared.Ranged.TheVariants as ranged
 use Rattle.cursor.specs.Node as node
 use Rattle.cursor.specs.Tree.{none}
 use Rattle.grammar.specs.Places.{Place, kind_of, span_of, after, Tok, Free, from_all}
@@ -144,12 +144,12 @@ module _ {text : List ℕ} where
       let w = b.0.agrees d' e in
       let r = w.same in
       let t = b.1.agrees f' (ap member_of c) r.ends in
-      record { chosen = t.chosen; same = record { ends = t.same.ends; shapes = λ x so i. t.same.shapes x (member_over x (r.ends i) ranged.Nowhere (w.chosen i) so (value r i)) i } }
+      record { chosen = t.chosen; same = record { ends = t.same.ends; shapes = λ x so i. t.same.shapes x (member_over x (r.ends i) None (w.chosen i) so (value r i)) i } }
   same (at-safe a d f) b (at-safe a' d' f') c e =
       let w = b.0.agrees d' (step a a' e) in
       let r = w.same in
       let t = b.1.agrees f' refl r.ends in
-      record { chosen = t.chosen; same = record { ends = t.same.ends; shapes = λ x so i. t.same.shapes x (member_over x (r.ends i) (ranged.At (span_of (e i))) (w.chosen i) so (value r i)) i } }
+      record { chosen = t.chosen; same = record { ends = t.same.ends; shapes = λ x so i. t.same.shapes x (member_over x (r.ends i) (Some (span_of (e i))) (w.chosen i) so (value r i)) i } }
 
   pub posts : {lambda : Bool} {f h i j : Form} {p q u v : Place} (d : Derives text (Posts lambda f h) p q) → Below d → (e : Derives text (Posts lambda i j) u v) → f ≡ i → p ≡ u → Alike h j d e
   posts {lambda = lambda} {i = i} {j = j} {u = u} {v = v} d b e c h = same (seen d) b (subst (λ w. PostsAt (post_sort lambda (kind_of w)) lambda i j u v e) (sym h) (seen e)) c h

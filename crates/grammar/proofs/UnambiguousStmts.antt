@@ -1,4 +1,5 @@
 -- Statements are unambiguous, one and in a row, and none starts where a key does.
+use Rattle.std.specs.Prelude.{Some, None}
 use Prim.Native.Nat.{ℕ}
 use mathlib.Core.Path.{◌≡◌, refl, sym, ap, subst, ◌∙◌}
 use mathlib.Core.List.{List}
@@ -7,7 +8,6 @@ use lib.Dec.{eqb}
 use native.Mathlib.Omega.{arith}
 use borrow.Author.Tests.{eqb-true, ne_eqb}
 use Rattle.kinds.specs.Number as kind
-use Rattle.cursor.specs.declared.Ranged.TheVariants as ranged
 use Rattle.cursor.specs.Node as node
 use Rattle.grammar.specs.Places.{Place, kind_of, span_of, start_of, after, Tok, Not}
 use Rattle.grammar.specs.Symbols.{Form, Ident, Ty, Typed, Expr, Prec, Function, Effect, Path, Stmt, Stmts, Exprs, Key}
@@ -119,14 +119,14 @@ module _ {text : List ℕ} where
   same (at-import a d) b (at-import a' d') e =
       let r = b.agrees d' (step a a' e) in
       record { ends = r.ends; shapes = λ x so i. r.shapes (start_of (e i)) blank i }
-  same (at-effect d) b (at-effect d') e = let r = b.agrees d' e in record { ends = r.ends; shapes = λ x so i. effect_over (start_of (e i)) (r.ends i) ranged.Nowhere (value r i) }
+  same (at-effect d) b (at-effect d') e = let r = b.agrees d' e in record { ends = r.ends; shapes = λ x so i. effect_over (start_of (e i)) (r.ends i) None (value r i) }
   same (at-glo-fn a c d f) b (at-glo-fn a' c' d' f') e =
       let r = ident d d' (step c c' (step a a' e)) in
       let t = b.agrees f' r.ends in
-      record { ends = t.ends; shapes = λ x so i. fn_over (start_of (e i)) (t.ends i) (ranged.At (span_of (e i))) (value r i).row (t.shapes (start_of (e i)) blank i) }
+      record { ends = t.ends; shapes = λ x so i. fn_over (start_of (e i)) (t.ends i) (Some (span_of (e i))) (value r i).row (t.shapes (start_of (e i)) blank i) }
   same (at-glo-effect a d) b (at-glo-effect a' d') e =
       let r = b.agrees d' (step a a' e) in
-      record { ends = r.ends; shapes = λ x so i. effect_over (start_of (e i)) (r.ends i) (ranged.At (span_of (e i))) (value r i) }
+      record { ends = r.ends; shapes = λ x so i. effect_over (start_of (e i)) (r.ends i) (Some (span_of (e i))) (value r i) }
   same (at-glo-assign a d c f) b (at-glo-assign a' d' c' f') e =
       let r = (b.0 a-ty).agrees d' (step a a' e) in
       let t = b.1.agrees f' (step c c' r.ends) in
@@ -134,7 +134,7 @@ module _ {text : List ℕ} where
   same (at_fn a d f) b (at_fn a' d' f') e =
       let r = ident d d' (step a a' e) in
       let t = b.agrees f' r.ends in
-      record { ends = t.ends; shapes = λ x so i. fn_over (start_of (e i)) (t.ends i) ranged.Nowhere (value r i).row (t.shapes (start_of (e i)) blank i) }
+      record { ends = t.ends; shapes = λ x so i. fn_over (start_of (e i)) (t.ends i) None (value r i).row (t.shapes (start_of (e i)) blank i) }
 
   pub stmt : {p q u v : Place} (d : Derives text Stmt p q) → Below d → (e : Derives text Stmt u v) → p ≡ u → Agree d e
   stmt {u = u} {v = v} d b e h = same (seen d) b (subst (λ w. StmtAt (stmt_sort w) u v e) (sym h) (seen e)) h

@@ -1,5 +1,6 @@
 -- What the parts of a production add that are no plain token and no row: Eols, a literal, a name, a type word, and what is laid over a block
 -- or joins a Call.
+use Rattle.std.specs.Prelude.{Some, None, Option, Result, Ok, Err}
 use Prim.Native.Nat.{ℕ}
 use mathlib.Core.Path.{◌≡◌, refl, sym, ap, subst}
 use native.Mathlib.Omega.{arith}
@@ -10,8 +11,8 @@ use borrow.Author.Tests.{eqb-true}
 use Rattle.kinds.specs.Number as kind
 use Rattle.kinds.specs.Text.{part}
 use Rattle.kinds.specs.TypeWords.{type_word}
-use Rattle.ints.specs.declared.IntAnswer.{IntAnswer}
-use Rattle.ints.specs.declared.IntAnswer.TheVariants as ints
+use Rattle.ints.specs.declared.Int.{Int}
+use Rattle.ints.specs.declared.IntFault.{IntFault}
 use Rattle.ints.specs.Answer.{int_of}
 use Rattle.cursor.specs.declared.Label.{Label}
 use Rattle.cursor.specs.declared.Span.{Span}
@@ -20,8 +21,6 @@ use Rattle.cursor.specs.Tree.{Trees, none, tree}
 use Rattle.types.specs.declared.lits.Literal.{Literal}
 use Rattle.types.specs.declared.lits.Literal.TheVariants as literals
 use Rattle.types.specs.Lits.{literal, int_literal, int_by, when}
-use Rattle.parts.specs.declared.steps.Checked.{Checked}
-use Rattle.parts.specs.declared.steps.Checked.TheVariants as checked
 use Rattle.parts.specs.Records.{function_kind}
 use Rattle.parts.specs.Steps.{checked_by, checked_type}
 use Rattle.grammar.specs.Places.{Place, kind_of, span_of, start_of, after, Tok}
@@ -59,10 +58,10 @@ module _ (text : List ℕ) (k : ℕ) (r : Span) (l : Label) where
   leaf-word : (j flags : ℕ) → among j word_records ≡ true → eqb j node.TypeCheck ≡ false → literals.Value (record { kind = j; start = r.start; end = r.end; one = 0; two = 0; flags = flags }) ≡ literals.Value l → Word l r.start r.end
   leaf-word j flags own other = same-label _ (record { own = own; other = other; from = refl; to = refl })
 
-  int_word : (a : IntAnswer) → int_by a r ≡ literals.Value l → Word l r.start r.end
+  int_word : (a : Result Int IntFault) → int_by a r ≡ literals.Value l → Word l r.start r.end
   unfolding among
-  int_word (ints.Value sign m) q = same-label _ (record { own = refl; other = refl; from = refl; to = refl }) q
-  int_word (ints.Fault f) q = absurd (never q)
+  int_word (Ok n) q = same-label _ (record { own = refl; other = refl; from = refl; to = refl }) q
+  int_word (Err f) q = absurd (never q)
     where
       never : {n : ℕ} → literals.Faulty n ≡ literals.Value l → ⊥
       never q = let z : ◌≡◌ {A = ℕ} 0 1 = cc in omega arith
@@ -97,17 +96,17 @@ unfolding among
 ident-adds t = word (ap (λ k. among k word_kinds) t.here) t.next (record { own = refl; other = refl; from = refl; to = refl })
 
 -- a token that names a type is null or a name
-checked-kind : (text : List ℕ) (k : ℕ) (r : Span) (n : ℕ) → checked_type text k r ≡ checked.Type n → among k word_kinds ≡ true
+checked-kind : (text : List ℕ) (k : ℕ) (r : Span) (n : ℕ) → checked_type text k r ≡ Some n → among k word_kinds ≡ true
 unfolding checked_type among
 checked-kind text k r n = go (eqb k kind.Null) refl (eqb k kind.Ident) refl
   where
     go : (b : Bool) → eqb k kind.Null ≡ b → (c : Bool) → eqb k kind.Ident ≡ c
-        → elim b as (λ _. Checked) [ true ↦ checked.Type 0 | false ↦ elim c as (λ _. Checked) [ true ↦ checked_by (type_word (part text r.start r.end)) | false ↦ checked.Unknown ] ] ≡ checked.Type n → among k word_kinds ≡ true
+        → elim b as (λ _. Option ℕ) [ true ↦ Some 0 | false ↦ elim c as (λ _. Option ℕ) [ true ↦ checked_by (type_word (part text r.start r.end)) | false ↦ None ] ] ≡ Some n → among k word_kinds ≡ true
     go true q c u e = ap (λ j. among j word_kinds) (eqb-true k kind.Null q)
     go false q true u e = ap (λ j. among j word_kinds) (eqb-true k kind.Ident u)
     go false q false u e = absurd (let z : ◌≡◌ {A = ℕ} 0 1 = cc in omega arith)
 
-pub checked-adds : {ks : Trees} (text : List ℕ) (p q : Place) (x n : ℕ) → checked_type text (kind_of p) (span_of p) ≡ checked.Type n → after p ≡ q
+pub checked-adds : {ks : Trees} (text : List ℕ) (p q : Place) (x n : ℕ) → checked_type text (kind_of p) (span_of p) ≡ Some n → after p ≡ q
     → Adds ks (tree (record { kind = node.TypeCheck; start = x; end = q.prev; one = n; two = start_of p; flags = 0 }) ks) p q
 checked-adds text p q x n c b = type-word x n 0 (checked-kind text (kind_of p) (span_of p) n c) b
 

@@ -1,8 +1,7 @@
 -- What the parts of a derivation are built into: trees with the kinds, ranges, words and flags of docs/LAYOUT.md.
-use Rattle.std.specs.Prelude.{ℕ, ◌+◌, ◌*◌, ◌^◌, Bool, true, false}
+use Rattle.std.specs.Prelude.{ℕ, ◌+◌, ◌*◌, ◌^◌, Bool, true, false, Some, None}
 use Rattle.cursor.specs.declared.Span.{Span}
-use Rattle.cursor.specs.declared.Ranged.{Ranged}
-use Rattle.cursor.specs.declared.Ranged.TheVariants as ranged
+use Rattle.cursor.specs.Sheet.{Ranged}
 use Rattle.cursor.specs.Node as node
 use Rattle.cursor.specs.Tree.{Trees, none, join, tree}
 use Rattle.cursor.specs.Tree as trees
@@ -20,11 +19,11 @@ pub record Shape : Type 0 where
 
 -- a row with nothing in it yet
 abbrev pub blank : Shape
-blank = record { row = none; count = 0; last = ranged.Nowhere }
+blank = record { row = none; count = 0; last = None }
 
 -- a row of these, none of them an item
 abbrev pub only : Trees → Shape
-only t = record { row = t; count = 0; last = ranged.Nowhere }
+only t = record { row = t; count = 0; last = None }
 
 -- a row that begins with these, and one more item of it
 abbrev pub more : Shape → Shape → Shape
@@ -36,7 +35,7 @@ ending so item = record { row = join so.row item.row; count = so.count; last = i
 
 -- a last item: a value, or nothing but its range
 abbrev pub marked : Trees → Span → Shape
-marked t range = record { row = t; count = 0; last = ranged.At range }
+marked t range = record { row = t; count = 0; last = Some range }
 
 -- the range of a last item that is a value: that one's own record has it
 abbrev pub unmarked : Span

@@ -1,13 +1,12 @@
 -- The grammar: `Derives text y p q` says that a y stands from place p to place q. docs/GRAMMAR.md has the same productions in a notation for
 -- readers. A production with more than its parts says what may or may not follow: `Here`, `Not`, `Free` look at the next token and take
 -- nothing. Such a condition stands where one text could be taken further, or in two ways; where the first tokens differ there is none.
-use Rattle.std.specs.Prelude.{ℕ, suc, ◌+◌, ◌<◌, ◌≤◌, ◌≡◌, List, [], ◌∷◌, Bool, true, false}
+use Rattle.std.specs.Prelude.{ℕ, suc, ◌+◌, ◌<◌, ◌≤◌, ◌≡◌, List, [], ◌∷◌, Bool, true, false, Some}
 use Rattle.kinds.specs.Number as kind
 use Rattle.kinds.specs.Operators.{level_of}
 use Rattle.cursor.specs.declared.Label.{Label}
 use Rattle.types.specs.declared.lits.Literal.TheVariants as literals
 use Rattle.types.specs.Lits.{literal}
-use Rattle.parts.specs.declared.steps.Checked.TheVariants as checked
 use Rattle.parts.specs.Steps.{checked_type}
 use Rattle.grammar.specs.Places.{Place, kind_of, span_of, after, Tok, Here, Not, Free}
 use Rattle.grammar.specs.Symbols.{
@@ -180,7 +179,7 @@ pub data Derives (text : List ℕ) : Sym → Place → Place → Type 0 where
   no-op : {n : ℕ} {lambda : Bool} {f : Form} {p : Place} → level_of (kind_of p) < n → Derives text (Ops n lambda f f) p p
   binary : {n k : ℕ} {lambda : Bool} {f g h : Form} {p q r s : Place} → n ≤ level_of k → (k ≡ kind.Is → ⊥) → Tok k p q → Derives text (Prec (level_of k + 1) lambda h) q r → Derives text (Ops n lambda Other g) r s
       → Derives text (Ops n lambda f g) p s
-  type-check : {n word : ℕ} {lambda : Bool} {f g : Form} {p q r s : Place} → n ≤ level_of kind.Is → Tok kind.Is p q → checked_type text (kind_of q) (span_of q) ≡ checked.Type word → after q ≡ r
+  type-check : {n word : ℕ} {lambda : Bool} {f g : Form} {p q r s : Place} → n ≤ level_of kind.Is → Tok kind.Is p q → checked_type text (kind_of q) (span_of q) ≡ Some word → after q ≡ r
       → Derives text (Ops n lambda Other g) r s → Derives text (Ops n lambda f g) p s
   -- parse_expr_unary: `not`, `-` and `try` take a primary. `try` needs a final Call, and one handler or more, all that follow
   not-expr : {lambda : Bool} {f : Form} {p q r : Place} → Tok kind.Not p q → Derives text (Primary lambda f) q r → Derives text (Unary lambda Other) p r

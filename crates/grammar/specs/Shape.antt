@@ -1,7 +1,6 @@
 -- The tree of a derivation.
-use Rattle.std.specs.Prelude.{ℕ, List, true, false}
+use Rattle.std.specs.Prelude.{ℕ, List, true, false, Some, None}
 use Rattle.kinds.specs.Number as kind
-use Rattle.cursor.specs.declared.Ranged.TheVariants as ranged
 use Rattle.cursor.specs.Node as node
 use Rattle.cursor.specs.Tree.{none, join, tree}
 use Rattle.cursor.specs.Records.{flagged}
@@ -89,11 +88,11 @@ shape (by.block_of {q = q} {r = r} a d) x so = row_over node.Block (start_of q) 
 shape (by.function_of {closure = closure} {s = s} d e f) x so = signature (function_kind closure) x s (shape d 0 blank) (shape e 0 blank) (shape f 0 blank).row
 shape (by.effect_of {p = p} {t = t} a d e f) x so = only (join (shape d 0 blank).row (signature node.Effect (start_of p) t (shape e 0 blank) (shape f 0 blank) none).row)
 -- statements
-shape (by.fn-stmt {p = p} {s = s} a d e) x so = fn_over (start_of p) s ranged.Nowhere (shape d 0 blank).row (shape e (start_of p) blank)
+shape (by.fn-stmt {p = p} {s = s} a d e) x so = fn_over (start_of p) s None (shape d 0 blank).row (shape e (start_of p) blank)
 shape (by.import-stmt {p = p} a d) x so = shape d (start_of p) blank
-shape (by.effect-stmt {p = p} {q = q} d) x so = effect_over (start_of p) q ranged.Nowhere (shape d 0 blank)
-shape (by.glo-fn {p = p} {t = t} a b d e) x so = fn_over (start_of p) t (ranged.At (span_of p)) (shape d 0 blank).row (shape e (start_of p) blank)
-shape (by.glo-effect {p = p} {r = r} a d) x so = effect_over (start_of p) r (ranged.At (span_of p)) (shape d 0 blank)
+shape (by.effect-stmt {p = p} {q = q} d) x so = effect_over (start_of p) q None (shape d 0 blank)
+shape (by.glo-fn {p = p} {t = t} a b d e) x so = fn_over (start_of p) t (Some (span_of p)) (shape d 0 blank).row (shape e (start_of p) blank)
+shape (by.glo-effect {p = p} {r = r} a d) x so = effect_over (start_of p) r (Some (span_of p)) (shape d 0 blank)
 shape (by.glo-assign {p = p} {t = t} a d b e) x so = couple node.GloAssign (start_of p) t (shape d 0 blank) (shape e 0 blank)
 shape (by.path-more d a e) x so = shape e x (more so (shape d 0 blank))
 shape (by.path-alone {q = q} d h) x so = import_over x q (more so (shape d 0 blank)) blank false false
@@ -131,8 +130,8 @@ shape (by.no-post h l) x so = so
 shape (by.call {r = r} a d l e) x so = shape e x (call_over x r so (shape d 0 blank) none)
 shape (by.call-lambda {s = s} a d f e) x so = shape e x (call_over x s so (shape d 0 blank) (covered node.Closure (shape f 0 blank).row))
 shape (by.lambda-alone {q = q} d e) x so = shape e x (call_over x q so blank (covered node.Closure (shape d 0 blank).row))
-shape (by.member {n = n} {q = q} d e) x so = shape e x (member_over x q ranged.Nowhere n so (shape d 0 blank))
-shape (by.safe-member {n = n} {p = p} {r = r} a d e) x so = shape e x (member_over x r (ranged.At (span_of p)) n so (shape d 0 blank))
+shape (by.member {n = n} {q = q} d e) x so = shape e x (member_over x q None n so (shape d 0 blank))
+shape (by.safe-member {n = n} {p = p} {r = r} a d e) x so = shape e x (member_over x r (Some (span_of p)) n so (shape d 0 blank))
 shape (by.bracket a d b) x so = shape d 0 blank
 shape (by.dot a d) x so = shape d 0 blank
 shape (by.double-colon a d) x so = shape d 0 blank
@@ -146,9 +145,9 @@ shape (by.table {p = p} {r = r} a d) x so = row_over node.Table (start_of p) r (
 shape (by.block-expr {p = p} {r = r} {s = s} a e h d) x so = over node.ExprBlock (start_of p) s (row_over node.Block (start_of r) s (shape d 0 blank))
 shape (by.list {p = p} {r = r} a d) x so = row_over node.List (start_of p) r (shape d 0 blank)
 shape (by.atom-literal d) x so = shape d 0 blank
-shape (by.fn-expr {p = p} {r = r} a d) x so = fn_over (start_of p) r ranged.Nowhere none (shape d (start_of p) blank)
-shape (by.closure-expr {p = p} {q = q} d) x so = fn_over (start_of p) q ranged.Nowhere none (shape d (start_of p) blank)
-shape (by.do-expr {p = p} {r = r} a d) x so = fn_over (start_of p) r ranged.Nowhere none (over node.Do (start_of p) r (shape d 0 blank))
+shape (by.fn-expr {p = p} {r = r} a d) x so = fn_over (start_of p) r None none (shape d (start_of p) blank)
+shape (by.closure-expr {p = p} {q = q} d) x so = fn_over (start_of p) q None none (shape d (start_of p) blank)
+shape (by.do-expr {p = p} {r = r} a d) x so = fn_over (start_of p) r None none (over node.Do (start_of p) r (shape d 0 blank))
 shape (by.if-expr {p = p} {t = t} a d e f) x so = if_over (start_of p) t (shape d 0 blank) (shape e 0 blank) (shape f 0 blank)
 shape (by.match-expr {p = p} {t = t} a d b e) x so = row_over node.Match (start_of p) t (shape e 0 (only (shape d 0 blank).row))
 shape (by.loop-expr {p = p} {r = r} a d) x so = over node.Loop (start_of p) r (shape d 0 blank)

@@ -10,13 +10,14 @@ use lib.Pow.{pow-add}
 use lib.ListN.{length, get_or, take, drop, length-append, take-append-drop}
 use lib.Seq.{take-length}
 use lib.IntN.{ℤ}
+use Rattle.std.specs.Prelude.{Result, Ok, Err}
 use Rattle.ints.specs.Spelling.{kept, radix_of, after_prefix, sign_by, after_sign, digit_of, value_of}
-use Rattle.ints.specs.Answer.{largest, Found, right, wrong, judged, found_at, first_of, answered, number_of, afterwards, from_str_radix, int_of}
+use Rattle.ints.specs.Answer.{as_int, largest, Found, right, wrong, judged, found_at, first_of, answered, number_of, afterwards, from_str_radix, int_of}
 use Rattle.ints.specs.Meaning.{signed, number, meant, sign_of, magnitude_of, Spells}
 use Rattle.ints.specs.declared.Sign.{Sign}
 use Rattle.ints.specs.declared.Sign.TheVariants.{Absent, Plus, Minus}
+use Rattle.ints.specs.declared.Int.{Int}
 use Rattle.ints.specs.declared.IntFault.{IntFault}
-use Rattle.ints.specs.declared.IntAnswer.TheVariants.{Value, Fault}
 use Rattle.ints.proofs.Paths.{radix-usable}
 use Rattle.ints.proofs.Run as runs
 
@@ -96,7 +97,7 @@ module _ (radix : ℕ) (sign : Sign) (bs : List ℕ) where
   abbrev Digits : Type 0
   Digits = (i : ℕ) → i < length bs → digit_of (get_or bs i 0) < radix
 
-  pub number-some : 0 < radix → Digits → value_of radix (map digit_of bs) ≤ largest sign → number_of radix sign bs ≡ Value sign (value_of radix (map digit_of bs))
+  pub number-some : 0 < radix → Digits → value_of radix (map digit_of bs) ≤ largest sign → number_of radix sign bs ≡ Ok (as_int sign (value_of radix (map digit_of bs)))
   unfolding number_of
   number-some some digits small =
       ap (answered sign (value_of radix (map digit_of bs))) (nowhere-wrong (found_at radix sign bs) 0 (length bs) (λ k l. rw zero-add (runs.judged-right _ _ _ _ (digits k l) (omega (arith, prefix-smaller radix some (suc k) bs)))))
@@ -107,16 +108,19 @@ module _ (radix : ℕ) (sign : Sign) (bs : List ℕ) where
     pub digits : Digits
     pub small : 0 < length bs → n ≤ largest sign
 
-  known-right : {g : Sign} {n : ℕ} → first_of (found_at radix sign bs) 0 (length bs) ≡ right → Value sign (value_of radix (map digit_of bs)) ≡ Value g n → Known g n
+  known-right : {g : Sign} {n : ℕ} → first_of (found_at radix sign bs) 0 (length bs) ≡ right → ◌≡◌ {A = Result Int IntFault} (Ok (as_int sign (value_of radix (map digit_of bs)))) (Ok (as_int g n)) → Known g n
   known-right {g} {n} p q = record {
-    sign-is = cc;
+    sign-is = sym (ap (λ x. x.sign) same);
     value-is = value;
     digits = λ i l. (judged-known _ _ _ _ (rw zero-add at (everywhere i l))).0;
     small = λ l. rw value (last (length bs) refl l);
   }
     where
+      same : as_int sign (value_of radix (map digit_of bs)) ≡ as_int g n
+      same = cc
+
       value : n ≡ value_of radix (map digit_of bs)
-      value = cc
+      value = sym (ap (λ x. x.magnitude) same)
 
       everywhere : (k : ℕ) → k < length bs → found_at radix sign bs (0 + k) ≡ right
       everywhere = right-everywhere (found_at radix sign bs) 0 (length bs) p
@@ -125,23 +129,23 @@ module _ (radix : ℕ) (sign : Sign) (bs : List ℕ) where
       last zero e l = absurd (omega arith)
       last (suc m) e l = rw (take-length bs) at (rw (← e) at (judged-known _ _ _ _ (rw zero-add at (everywhere m (omega arith)))).1)
 
-  by-found : {g : Sign} {n : ℕ} (f : Found) → first_of (found_at radix sign bs) 0 (length bs) ≡ f → answered sign (value_of radix (map digit_of bs)) f ≡ Value g n → Known g n
+  by-found : {g : Sign} {n : ℕ} (f : Found) → first_of (found_at radix sign bs) 0 (length bs) ≡ f → answered sign (value_of radix (map digit_of bs)) f ≡ Ok (as_int g n) → Known g n
   by-found right p q = known-right p q
   by-found (wrong x) p q = absurd (let z : ◌≡◌ {A = ℕ} 0 1 = cc in omega arith)
 
-  pub number-known : {g : Sign} {n : ℕ} → number_of radix sign bs ≡ Value g n → Known g n
+  pub number-known : {g : Sign} {n : ℕ} → number_of radix sign bs ≡ Ok (as_int g n) → Known g n
   unfolding number_of
   number-known q = by-found _ refl q
 
 -- what follows a sign, and what stands before it
 module _ (radix : ℕ) where
-  after-known : (sign : Sign) {g : Sign} {n : ℕ} (bs : List ℕ) → afterwards radix sign bs ≡ Value g n → (0 < length bs) × (number_of radix sign bs ≡ Value g n)
+  after-known : (sign : Sign) {g : Sign} {n : ℕ} (bs : List ℕ) → afterwards radix sign bs ≡ Ok (as_int g n) → (0 < length bs) × (number_of radix sign bs ≡ Ok (as_int g n))
   unfolding afterwards
   after-known sign [] p = absurd (let z : ◌≡◌ {A = ℕ} 0 1 = cc in omega arith)
   after-known sign (b ∷ bs) p = (omega arith, p)
 
-  from-known : {g : Sign} {n : ℕ} (u : List ℕ) → from_str_radix radix u ≡ Value g n
-      → (0 < length (after_sign (sign_by (get_or u 0 0)) u)) × (number_of radix (sign_by (get_or u 0 0)) (after_sign (sign_by (get_or u 0 0)) u) ≡ Value g n)
+  from-known : {g : Sign} {n : ℕ} (u : List ℕ) → from_str_radix radix u ≡ Ok (as_int g n)
+      → (0 < length (after_sign (sign_by (get_or u 0 0)) u)) × (number_of radix (sign_by (get_or u 0 0)) (after_sign (sign_by (get_or u 0 0)) u) ≡ Ok (as_int g n))
   unfolding from_str_radix
   from-known [] p = absurd (let z : ◌≡◌ {A = ℕ} 0 1 = cc in omega arith)
   from-known (b ∷ bs) p = after-known (sign_by b) (after_sign (sign_by b) (b ∷ bs)) p
@@ -161,7 +165,7 @@ module _ (bytes : List ℕ) where
   radix-some = omega (arith, (radix-usable (kept bytes)).0)
 
   -- A spelling whose number i64 has is answered with that number.
-  pub spelled-answered : {z : ℤ} → Spells bytes z → magnitude_of bytes ≤ largest (sign_of bytes) → int_of bytes ≡ Value (sign_of bytes) (magnitude_of bytes)
+  pub spelled-answered : {z : ℤ} → Spells bytes z → magnitude_of bytes ≤ largest (sign_of bytes) → int_of bytes ≡ Ok (as_int (sign_of bytes) (magnitude_of bytes))
   unfolding int_of
   spelled-answered s small = from_some (radix_of (kept bytes)) (after_prefix (kept bytes)) s.some ∙ number-some _ _ _ radix-some s.digits small
 
@@ -172,7 +176,7 @@ module _ (bytes : List ℕ) where
     pub magnitude-is : n ≡ magnitude_of bytes
     pub in-range : n ≤ largest sign
 
-  pub answered-spelled : {sign : Sign} {n : ℕ} → int_of bytes ≡ Value sign n → Answered sign n
+  pub answered-spelled : {sign : Sign} {n : ℕ} → int_of bytes ≡ Ok (as_int sign n) → Answered sign n
   unfolding int_of
   answered-spelled {sign} {n} p =
       let some = (from-known (radix_of (kept bytes)) (after_prefix (kept bytes)) p).0 in
@@ -185,7 +189,7 @@ module _ (bytes : List ℕ) where
       }
 
   -- At most 2^63, and 2^63 only with a minus.
-  pub magnitude-bounds : {sign : Sign} {n : ℕ} → int_of bytes ≡ Value sign n → (n ≤ 2 ^ 63) × (n ≡ 2 ^ 63 → sign ≡ Minus)
+  pub magnitude-bounds : {sign : Sign} {n : ℕ} → int_of bytes ≡ Ok (as_int sign n) → (n ≤ 2 ^ 63) × (n ≡ 2 ^ 63 → sign ≡ Minus)
   magnitude-bounds {sign} {n} p = by_sign sign (answered-spelled p).in-range
     where
       by_sign : (g : Sign) → n ≤ largest g → (n ≤ 2 ^ 63) × (n ≡ 2 ^ 63 → g ≡ Minus)
@@ -204,10 +208,10 @@ values-apart one other {y} {z} s t small same =
     s.sum ∙ known.spells.sum ∙ sym t.sum
 
 -- A fault after the sign is that of the first place from the left that is wrong.
-pub fault-first : (radix : ℕ) (sign : Sign) (bs : List ℕ) (f : IntFault) → number_of radix sign bs ≡ Fault f → First (found_at radix sign bs) 0 (length bs) f
+pub fault-first : (radix : ℕ) (sign : Sign) (bs : List ℕ) (f : IntFault) → number_of radix sign bs ≡ Err f → First (found_at radix sign bs) 0 (length bs) f
 unfolding number_of
 fault-first radix sign bs f p = first-wrong _ 0 (length bs) f (by-found' (first_of (found_at radix sign bs) 0 (length bs)) p)
   where
-    by-found' : (x : Found) → answered sign (value_of radix (map digit_of bs)) x ≡ Fault f → x ≡ wrong f
+    by-found' : (x : Found) → answered sign (value_of radix (map digit_of bs)) x ≡ Err f → x ≡ wrong f
     by-found' right q = absurd (let z : ◌≡◌ {A = ℕ} 0 1 = cc in omega arith)
     by-found' (wrong g) q = cc

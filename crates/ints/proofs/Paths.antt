@@ -1,22 +1,20 @@
 -- Each way through the definitions of a spelling, as an equation.
-use Prim.Native.Nat.{ℕ, ◌+◌, ◌-◌, ◌<◌, ◌≤◌, min}
-use mathlib.Core.Path.{◌≡◌, refl, sym, ◌∙◌}
+use Prim.Native.Nat.{ℕ, ◌-◌, ◌<◌, ◌≤◌}
+use mathlib.Core.Path.{◌≡◌, refl}
 use mathlib.Core.List.{List, [], ◌∷◌}
 use mathlib.Core.Bool.{Bool, true, false, ◌&&◌}
-use native.Mathlib.Numerals.{add-one}
-use native.Mathlib.Decide.{dec_le}
+use native.Mathlib.Decide.{dec_lt}
 use lib.Dec.{leb, eqb}
-use lib.ListN.{length, get_or, take, drop, length-drop, drop_of_length-le}
-use lib.Seq.{drop-cons, take_all, take-nil}
-use borrow.Author.Tests.{le-leb, lt-leb, ne_eqb}
+use lib.ListN.{length, get_or, drop}
+use borrow.Author.Tests.{le-leb, lt-leb, le-ltb, lt-ltb, ne_eqb}
 use native.Mathlib.Omega.{arith}
-use Rattle.kinds.specs.Text.{part}
-use Rattle.ints.specs.Spelling.{kept, radix_by, radix_of, after_prefix, sign_by, within, digit_of}
+use Rattle.std.specs.Char.{digit_value}
+use Rattle.std.specs.Prelude.{Err, Option, Some, None, unwrap_or}
+use Rattle.ints.specs.Spelling.{kept, radix_by, prefix_radix, radix_of, after_prefix, sign_by, within, digit_of}
 use Rattle.ints.specs.Answer.{number_of, afterwards, from_str_radix, int_of}
 use Rattle.ints.specs.declared.Sign.{Sign}
 use Rattle.ints.specs.declared.Sign.TheVariants.{Absent, Plus, Minus}
 use Rattle.ints.specs.declared.IntFault.TheVariants.{Empty, InvalidDigit}
-use Rattle.ints.specs.declared.IntAnswer.TheVariants.{Fault}
 
 -- digits
 module _ (low high b : ℕ) where
@@ -50,37 +48,43 @@ module _ (b : ℕ) where
   unfolding digit_of
   digit-none p q r = rw (p, digit_of) (rw q (rw r))
 
--- underscores
-module _ (s : List ℕ) (at : ℕ) (there : at < length s) where
-  pub kept-skips : get_or s at 0 ≡ 95 → kept (drop at s) ≡ kept (drop (at + 1) s)
-  unfolding kept
-  kept-skips p = rw (drop-cons s at 0) (rw p (rw add-one refl))
+-- std's value of a character as a digit is the same
+pub digit-value : (b : ℕ) → digit_value b ≡ digit_of b
+digit-value b = by_place (dec_lt b 48) (dec_lt b 58) (dec_lt b 65) (dec_lt b 91) (dec_lt b 97) (dec_lt b 123)
+  where
+    by_place : Dec (b < 48) → Dec (b < 58) → Dec (b < 65) → Dec (b < 91) → Dec (b < 97) → Dec (b < 123) → digit_value b ≡ digit_of b
+    by_place (yes h) b58 b65 b91 b97 b123 = rw (digit-none b (below 48 57 b h) (below 97 122 b (omega arith)) (below 65 90 b (omega arith)), lt-ltb b 48 h)
+    by_place (no g) (yes h) b65 b91 b97 b123 = let l : 48 ≤ b = omega arith in rw (digit-decimal b l (omega arith), le-ltb b 48 l, lt-ltb b 58 h)
+    by_place (no g) (no i) (yes h) b91 b97 b123 =
+        let l : 58 ≤ b = omega arith in
+        rw (digit-none b (above 48 57 b (omega arith)) (below 97 122 b (omega arith)) (below 65 90 b h), le-ltb b 48 (omega arith), le-ltb b 58 l, lt-ltb b 65 h)
+    by_place (no g) (no i) (no j) (yes h) b97 b123 =
+        let l : 65 ≤ b = omega arith in
+        rw (digit-upper b l (omega arith), le-ltb b 48 (omega arith), le-ltb b 58 (omega arith), le-ltb b 65 l, lt-ltb b 91 h)
+    by_place (no g) (no i) (no j) (no k) (yes h) b123 =
+        let l : 91 ≤ b = omega arith in
+        rw (digit-none b (above 48 57 b (omega arith)) (below 97 122 b h) (above 65 90 b (omega arith)), le-ltb b 48 (omega arith), le-ltb b 58 (omega arith), le-ltb b 65 (omega arith), le-ltb b 91 l, lt-ltb b 97 h)
+    by_place (no g) (no i) (no j) (no k) (no m) (yes h) =
+        let l : 97 ≤ b = omega arith in
+        rw (digit-lower b l (omega arith), le-ltb b 48 (omega arith), le-ltb b 58 (omega arith), le-ltb b 65 (omega arith), le-ltb b 91 (omega arith), le-ltb b 97 l, lt-ltb b 123 h)
+    by_place (no g) (no i) (no j) (no k) (no m) (no n) =
+        let l : 123 ≤ b = omega arith in
+        rw (digit-none b (above 48 57 b (omega arith)) (above 97 122 b (omega arith)) (above 65 90 b (omega arith)), le-ltb b 48 (omega arith), le-ltb b 58 (omega arith), le-ltb b 65 (omega arith), le-ltb b 91 (omega arith), le-ltb b 97 (omega arith), le-ltb b 123 l)
 
-  pub kept-takes : (get_or s at 0 ≡ 95 → ⊥) → kept (drop at s) ≡ get_or s at 0 ∷ kept (drop (at + 1) s)
+-- underscores, where the bytes are a first one and the rest
+module _ {s : List ℕ} {b : ℕ} {rest : List ℕ} (is : s ≡ b ∷ rest) where
+  pub kept-skips : b ≡ 95 → kept s ≡ kept rest
   unfolding kept
-  kept-takes p = rw (drop-cons s at 0) (rw (ne_eqb _ _ p, kept) (rw add-one refl))
+  kept-skips p = rw (is, kept) (rw p)
 
-pub kept-ends : (s : List ℕ) (at : ℕ) → length s ≤ at → kept (drop at s) ≡ []
+  pub kept-takes : (b ≡ 95 → ⊥) → kept s ≡ b ∷ kept rest
+  unfolding kept
+  kept-takes p = rw (is, kept) (rw (ne_eqb _ _ p))
+
+pub kept-ends : (s : List ℕ) → length s ≡ 0 → kept s ≡ []
 unfolding kept
-kept-ends s at p = rw (drop_of_length-le s p)
-
--- prefixes
-module _ {b : ℕ} where
-  pub radix-hex : b ≡ 120 → radix_by b ≡ 16
-  unfolding radix_by
-  radix-hex p = rw p
-
-  pub radix-octal : b ≡ 111 → radix_by b ≡ 8
-  unfolding radix_by
-  radix-octal p = rw p
-
-  pub radix-binary : b ≡ 98 → radix_by b ≡ 2
-  unfolding radix_by
-  radix-binary p = rw p
-
-  pub radix-none : (b ≡ 120 → ⊥) → (b ≡ 111 → ⊥) → (b ≡ 98 → ⊥) → radix_by b ≡ 10
-  unfolding radix_by
-  radix-none p q r = rw (ne_eqb _ _ p, radix_by) (rw (ne_eqb _ _ q) (rw (ne_eqb _ _ r)))
+kept-ends [] p = refl
+kept-ends (b ∷ s) p = absurd (omega arith)
 
 -- signs, and what follows them
 module _ (radix : ℕ) {b : ℕ} (bs : List ℕ) where
@@ -96,11 +100,11 @@ module _ (radix : ℕ) {b : ℕ} (bs : List ℕ) where
   unfolding from_str_radix sign_by afterwards
   from-digits p q = rw (ne_eqb _ _ p, from_str_radix, sign_by) (rw (ne_eqb _ _ q))
 
-pub from_nothing : (radix : ℕ) → from_str_radix radix [] ≡ Fault Empty
+pub from_nothing : (radix : ℕ) → from_str_radix radix [] ≡ Err Empty
 unfolding from_str_radix
 from_nothing radix = refl
 
-pub after_nothing : (radix : ℕ) (sign : Sign) → afterwards radix sign [] ≡ Fault InvalidDigit
+pub after_nothing : (radix : ℕ) (sign : Sign) → afterwards radix sign [] ≡ Err InvalidDigit
 unfolding afterwards
 after_nothing radix sign = refl
 
@@ -108,84 +112,43 @@ pub after-some : (radix : ℕ) (sign : Sign) (b : ℕ) (bs : List ℕ) → after
 unfolding afterwards
 after-some radix sign b bs = refl
 
-pub radix-nothing : radix_of [] ≡ 10
-unfolding radix_of
-radix-nothing = refl
+-- a 0 alone is no prefix
+pub prefix-zero : {b : ℕ} → b ≡ 48 → prefix_radix (b ∷ []) ≡ None
+unfolding radix_by
+prefix-zero p = rw p
 
-module _ {b : ℕ} where
-  pub radix-other : (bs : List ℕ) → (b ≡ 48 → ⊥) → radix_of (b ∷ bs) ≡ 10
-  unfolding radix_of
-  radix-other bs p = rw (ne_eqb _ _ p, radix_of)
+-- what a prefix makes of the answer, where the bytes are known
+module _ (s : List ℕ) {bytes : List ℕ} (is : kept s ≡ bytes) where
+  pub int-of-none : prefix_radix bytes ≡ None → int_of s ≡ from_str_radix 10 bytes
+  unfolding int_of radix_of after_prefix
+  int-of-none p = rw (is, int_of) (rw (p, radix_of, after_prefix))
 
-  pub radix-zero : b ≡ 48 → radix_of (b ∷ []) ≡ 10
-  unfolding radix_of radix_by
-  radix-zero p = rw (p, radix_of)
-
-  pub radix-letter : (c : ℕ) (cs : List ℕ) → b ≡ 48 → radix_of (b ∷ c ∷ cs) ≡ radix_by c
-  unfolding radix_of
-  radix-letter c cs p = rw (p, radix_of)
-
-pub prefix-none : (s : List ℕ) → radix_of s ≡ 10 → after_prefix s ≡ s
-unfolding after_prefix
-prefix-none s p = rw (p, after_prefix)
-
-pub prefix-some : (s : List ℕ) → (radix_of s ≡ 10 → ⊥) → after_prefix s ≡ drop 2 s
-unfolding after_prefix
-prefix-some s p = rw (ne_eqb _ _ p, after_prefix)
+  pub int-of-some : {radix : ℕ} → prefix_radix bytes ≡ Some radix → int_of s ≡ from_str_radix radix (drop 2 bytes)
+  unfolding int_of radix_of after_prefix
+  int-of-some p = rw (is, int_of) (rw (p, radix_of, after_prefix))
 
 abbrev pub Usable : ℕ → Type 0
 Usable radix = (1 < radix) × (radix ≤ 16)
 
 -- every radix that a prefix names
+pub named-usable : (s : List ℕ) {radix : ℕ} → prefix_radix s ≡ Some radix → Usable radix
+unfolding radix_by
+named-usable s p = by_zero (eqb (get_or s 0 0) 48) (get_or s 1 0) p
+  where
+    chosen : (x o b : Bool) {radix : ℕ} → elim x as (λ _. Option ℕ) [ true ↦ Some 16 | false ↦ elim o as (λ _. Option ℕ) [ true ↦ Some 8 | false ↦ elim b as (λ _. Option ℕ) [ true ↦ Some 2 | false ↦ None ] ] ] ≡ Some radix → Usable radix
+    chosen true o b {radix} e = let h : 16 ≡ radix = cc in omega arith
+    chosen false true b {radix} e = let h : 8 ≡ radix = cc in omega arith
+    chosen false false true {radix} e = let h : 2 ≡ radix = cc in omega arith
+    chosen false false false e = cc
+
+    by_zero : (z : Bool) (c : ℕ) {radix : ℕ} → elim z as (λ _. Option ℕ) [ true ↦ radix_by c | false ↦ None ] ≡ Some radix → Usable radix
+    by_zero true c e = chosen (eqb c 120) (eqb c 111) (eqb c 98) e
+    by_zero false c e = cc
+
 pub radix-usable : (s : List ℕ) → Usable (radix_of s)
-unfolding radix_of radix_by
-radix-usable s = by_zero (eqb (get_or s 0 0) 48) (get_or s 1 0)
+unfolding radix_of
+radix-usable s = by_prefix (prefix_radix s) refl
   where
-    chosen : (x o b : Bool) → Usable (elim x as (λ _. ℕ) [ true ↦ 16 | false ↦ elim o as (λ _. ℕ) [ true ↦ 8 | false ↦ elim b as (λ _. ℕ) [ true ↦ 2 | false ↦ 10 ] ] ])
-    chosen true o b = omega arith
-    chosen false true b = omega arith
-    chosen false false true = omega arith
-    chosen false false false = omega arith
-
-    by_zero : (z : Bool) (c : ℕ) → Usable (elim z as (λ _. ℕ) [ true ↦ radix_by c | false ↦ 10 ])
-    by_zero true c = chosen (eqb c 120) (eqb c 111) (eqb c 98)
-    by_zero false c = omega arith
-
--- a part of a text, cut to where the text is
-pub part-within : (text : List ℕ) (start end stop from : ℕ) → stop ≡ min end (length text) → from ≡ min start stop
-    → take (stop - from) (drop from text) ≡ part text start end
-part-within text start end stop from p q = by_end (dec_le end (length text)) (dec_le start stop)
-  where
-    whole : (n : ℕ) → length text - start ≤ n → take n (drop start text) ≡ drop start text
-    whole n h = take_all n (drop start text) (rw (length-drop start text) h)
-
-    by_end : Dec (end ≤ length text) → Dec (start ≤ stop) → take (stop - from) (drop from text) ≡ part text start end
-    by_end (yes e) (yes s) =
-        let stops : stop ≡ end = omega arith in
-        let starts : from ≡ start = omega arith in
-        rw (stops, starts)
-    by_end (no e) (yes s) =
-        let starts : from ≡ start = omega arith in
-        rw starts (whole (stop - start) (omega arith) ∙ sym (whole (end - start) (omega arith)))
-    by_end d (no s) =
-        let none : stop - from ≡ 0 = omega arith in
-        rw none (sym (nothing d))
-      where
-        nothing : Dec (end ≤ length text) → part text start end ≡ []
-        nothing (yes e) = let gone : end - start ≡ 0 = omega arith in rw gone
-        nothing (no e) = rw (drop_of_length-le text {i = start} (omega arith)) (take-nil (end - start))
-
--- the two ways that a prefix is taken
-pub without-prefix : {t k : List ℕ} → t ≡ k → radix_of t ≡ 10 → (10 ≡ radix_of k) × (t ≡ after_prefix k)
-without-prefix p q = (sym (rw p at q), p ∙ sym (prefix-none _ (rw p at q)))
-
-pub with-prefix : {b c radix : ℕ} {bs cs rest k : List ℕ} → b ∷ bs ≡ k → c ∷ cs ≡ bs → b ≡ 48 → radix ≡ radix_by c → (radix ≡ 10 → ⊥) → rest ≡ cs
-    → (radix ≡ radix_of k) × (rest ≡ after_prefix k)
-with-prefix {b} {c} {radix} {bs} {cs} {rest} {k} p q leads named some left =
-    let all : b ∷ c ∷ cs ≡ k = cc in
-    let radixed : radix ≡ radix_of (b ∷ c ∷ cs) = named ∙ sym (radix-letter c cs leads) in
-    (rw all at radixed, left ∙ sym (rw all at (prefix-some (b ∷ c ∷ cs) (λ h. some (radixed ∙ h)))))
-
-pub int-of : (s : List ℕ) → int_of s ≡ from_str_radix (radix_of (kept s)) (after_prefix (kept s))
-unfolding int_of
-int-of s = refl
+    by_prefix : (r : Option ℕ) → prefix_radix s ≡ r → Usable (unwrap_or r 10)
+    by_prefix None e = omega arith
+    by_prefix (Some radix) e = named-usable s e

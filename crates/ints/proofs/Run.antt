@@ -1,24 +1,22 @@
 -- The number read digit by digit, each time the number so far times the radix and the digit, is the number that the definition gives.
-use Prim.Native.Nat.{ℕ, suc, ◌+◌, ◌-◌, ◌*◌, ◌/◌, ◌^◌, ◌<◌, ◌≤◌}
+use Prim.Native.Nat.{ℕ, suc, ◌+◌, ◌*◌, ◌^◌, ◌<◌, ◌≤◌}
 use mathlib.Core.Path.{◌≡◌, refl, sym, ap, ◌∙◌}
 use mathlib.Core.List.{List, [], ◌∷◌, ◌++◌, map, append-nil, append_assoc}
-use mathlib.Core.Bool.{Bool, true, false, not}
-use native.Mathlib.Decide.{dec_le}
+use native.Mathlib.Decide.{dec_le, dec_lt}
 use native.Mathlib.Numerals.{add-one}
-use native.Mathlib.Nat.{add-mul, mul_assoc, mul_comm, pow-zero, pow-succ', mul-one, add-zero, zero-add, zero-mul, mul-le-mul_left, div-lt_iff_lt-mul, le-div_iff_mul-le}
-use lib.Dec.{leb}
+use native.Mathlib.Nat.{add-mul, mul_assoc, mul_comm, pow-zero, pow-succ', mul-one, add-zero, zero-add, zero-mul}
 use lib.ListN.{length, take, length-append}
 use lib.Seq.{get_or-append_seam}
-use borrow.Author.Tests.{lt-ltb, le-ltb, le-leb, lt-leb, leb-true, leb-false, not-true, not-false}
+use borrow.Author.Tests.{lt-ltb, le-ltb, le-leb, lt-leb}
 use native.Mathlib.Omega.{arith}
+use Rattle.std.specs.Prelude.{Result, Ok, Err}
 use Rattle.ints.specs.Spelling.{digit_of, value_of}
-use Rattle.ints.specs.Answer.{largest, beyond, Found, right, wrong, judged, found_at, first_of, answered, number_of}
+use Rattle.ints.specs.Reading.{grown}
+use Rattle.ints.specs.Answer.{as_int, largest, beyond, Found, right, wrong, judged, found_at, first_of, answered, number_of}
 use Rattle.ints.specs.declared.Sign.{Sign}
-use Rattle.ints.specs.declared.Sign.TheVariants.{Absent, Plus, Minus}
 use Rattle.ints.specs.declared.IntFault.{IntFault}
 use Rattle.ints.specs.declared.IntFault.TheVariants.{InvalidDigit}
-use Rattle.ints.specs.declared.IntAnswer.{IntAnswer}
-use Rattle.ints.specs.declared.IntAnswer.TheVariants.{Value, Fault}
+use Rattle.ints.specs.declared.Int.{Int}
 
 -- one more digit: the sum shifts by one place
 pub value-snoc : (radix : ℕ) (ds : List ℕ) (d : ℕ) → value_of radix (ds ++ (d ∷ [])) ≡ value_of radix ds * radix + d
@@ -52,28 +50,49 @@ take_done [] b bs = refl
 take_done (x ∷ done) b bs = ap (λ l. x ∷ l) (take_done done b bs)
 
 module _ (radix : ℕ) (sign : Sign) where
-  -- reading on with the number so far
-  unfoldable pub run : ℕ → List ℕ → IntAnswer
-  run size [] = Value sign size
-  run size (b ∷ bs) = elim (judged radix sign (digit_of b) (size * radix + digit_of b)) as (λ _. IntAnswer) [
-    | right ↦ run (size * radix + digit_of b) bs
-    | wrong f ↦ Fault f
-  ]
+  -- each way that one more digit goes
+  pub grown-wrong : (size b : ℕ) {f : IntFault} → judged radix sign (digit_of b) (size * radix + digit_of b) ≡ wrong f → grown radix sign size b ≡ Err f
+  unfolding grown
+  grown-wrong size b p = rw (p, grown)
 
-  pub run_end : (size : ℕ) → run size [] ≡ Value sign size
+  pub grown-right : (size b : ℕ) → judged radix sign (digit_of b) (size * radix + digit_of b) ≡ right → grown radix sign size b ≡ Ok (size * radix + digit_of b)
+  unfolding grown
+  grown-right size b p = rw (p, grown)
+
+  -- a number that grows stays one that i64 has with the sign
+  pub grown-small : (size b : ℕ) {more : ℕ} → grown radix sign size b ≡ Ok more → more ≤ largest sign
+  grown-small size b {more} p = by-place (dec_lt (digit_of b) radix) (dec_le (size * radix + digit_of b) (largest sign))
+    where
+      by-place : Dec (digit_of b < radix) → Dec (size * radix + digit_of b ≤ largest sign) → more ≤ largest sign
+      by-place (yes d) (yes v) = let e = grown-right size b (judged-right radix sign _ _ d v) in let same : size * radix + digit_of b ≡ more = cc in omega arith
+      by-place (no d) v = let e = grown-wrong size b (judged-none radix sign _ (size * radix + digit_of b) (omega arith)) in let z : ◌≡◌ {A = ℕ} 0 1 = cc in omega arith
+      by-place (yes d) (no v) = let e = grown-wrong size b (judged-beyond radix sign _ _ d (omega arith)) in let z : ◌≡◌ {A = ℕ} 0 1 = cc in omega arith
+
+  -- reading on with the number so far
+  unfoldable pub run : ℕ → List ℕ → Result Int IntFault
+  run size [] = Ok (as_int sign size)
+  run size (b ∷ bs) = elim (grown radix sign size b) as (λ _. Result Int IntFault) [ Ok more ↦ run more bs | Err f ↦ Err f ]
+
+  pub run_end : (size : ℕ) → run size [] ≡ Ok (as_int sign size)
   unfolding run
   run_end size = refl
 
-  pub run-wrong : (size b : ℕ) (bs : List ℕ) {f : IntFault} → judged radix sign (digit_of b) (size * radix + digit_of b) ≡ wrong f → run size (b ∷ bs) ≡ Fault f
+  pub run-stops : (size b : ℕ) (bs : List ℕ) {f : IntFault} → grown radix sign size b ≡ Err f → run size (b ∷ bs) ≡ Err f
   unfolding run
-  run-wrong size b bs p = rw (p, run)
+  run-stops size b bs p = rw (p, run)
 
-  pub run-right : (size b : ℕ) (bs : List ℕ) → judged radix sign (digit_of b) (size * radix + digit_of b) ≡ right → run size (b ∷ bs) ≡ run (size * radix + digit_of b) bs
+  pub run-on : (size b : ℕ) (bs : List ℕ) {more : ℕ} → grown radix sign size b ≡ Ok more → run size (b ∷ bs) ≡ run more bs
   unfolding run
-  run-right size b bs p = rw (p, run)
+  run-on size b bs p = rw (p, run)
+
+  run-wrong : (size b : ℕ) (bs : List ℕ) {f : IntFault} → judged radix sign (digit_of b) (size * radix + digit_of b) ≡ wrong f → run size (b ∷ bs) ≡ Err f
+  run-wrong size b bs p = run-stops size b bs (grown-wrong size b p)
+
+  run-right : (size b : ℕ) (bs : List ℕ) → judged radix sign (digit_of b) (size * radix + digit_of b) ≡ right → run size (b ∷ bs) ≡ run (size * radix + digit_of b) bs
+  run-right size b bs p = run-on size b bs (grown-right size b p)
 
   -- the definition's answer from the place after `done` on
-  rest : List ℕ → List ℕ → IntAnswer
+  rest : List ℕ → List ℕ → Result Int IntFault
   rest done bs = answered sign (value_of radix (map digit_of (done ++ bs))) (first_of (found_at radix sign (done ++ bs)) (length done) (length bs))
 
   module _ (done : List ℕ) (b : ℕ) (bs : List ℕ) where
@@ -83,7 +102,7 @@ module _ (radix : ℕ) (sign : Sign) where
     found-next : found_at radix sign (done ++ (b ∷ bs)) (length done) ≡ judged radix sign (digit_of b) (value_of radix (map digit_of done) * radix + digit_of b)
     found-next = rw (get_or-append_seam done b bs 0, take_done done b bs, value-more)
 
-    rest-wrong : {f : IntFault} → judged radix sign (digit_of b) (value_of radix (map digit_of done) * radix + digit_of b) ≡ wrong f → rest done (b ∷ bs) ≡ Fault f
+    rest-wrong : {f : IntFault} → judged radix sign (digit_of b) (value_of radix (map digit_of done) * radix + digit_of b) ≡ wrong f → rest done (b ∷ bs) ≡ Err f
     unfolding rest first_of
     rest-wrong p = rw (found-next ∙ p, first_of)
 
@@ -105,26 +124,3 @@ module _ (radix : ℕ) (sign : Sign) where
   pub run-all : (bs : List ℕ) → number_of radix sign bs ≡ run 0 bs
   unfolding number_of rest value_of
   run-all bs = sym (run-rest [] bs)
-
--- whether a product is within a limit, by a bound or by a division
-module _ (limit radix size : ℕ) where
-  pub room_small : radix ≤ 16 → 2 ^ 63 - 1 ≤ limit → size < 2 ^ 59 → true ≡ leb (size * radix) limit
-  room_small p q r = sym (le-leb (size * radix) limit (omega (arith, mul-le-mul_left size p)))
-
-  pub room-large : 1 < radix → leb size (limit / radix) ≡ leb (size * radix) limit
-  room-large p = by-quotient (dec_le size (limit / radix))
-    where
-      by-quotient : Dec (size ≤ limit / radix) → leb size (limit / radix) ≡ leb (size * radix) limit
-      by-quotient (yes h) = le-leb _ _ h ∙ sym (le-leb (size * radix) limit ((le-div_iff_mul-le {k = radix} (omega arith)).0 h))
-      by-quotient (no h) = lt-leb size (limit / radix) (omega arith) ∙ sym (lt-leb (size * radix) limit ((div-lt_iff_lt-mul {k = radix} (omega arith)).0 (omega arith)))
-
-  pub there-is-room : {t : Bool} → t ≡ leb (size * radix) limit → not t ≡ false → size * radix ≤ limit
-  there-is-room {t} p q = leb-true (size * radix) limit (sym p ∙ not-false t q)
-
-  pub there-is-none : {t : Bool} → t ≡ leb (size * radix) limit → not t ≡ true → limit < size * radix
-  there-is-none {t} p q = leb-false (size * radix) limit (sym p ∙ not-true t q)
-
-pub largest-about : (sign : Sign) → (2 ^ 63 - 1 ≤ largest sign) × (largest sign ≤ 2 ^ 63)
-largest-about Absent = omega arith
-largest-about Plus = omega arith
-largest-about Minus = omega arith

@@ -1,12 +1,11 @@
 -- What a spelling is answered with.
-use Rattle.std.specs.Prelude.{ℕ, zero, suc, ◌-◌, ◌^◌, List, [], ◌∷◌, map, true, false, length, get_or, take, leb, ltb}
+use Rattle.std.specs.Prelude.{ℕ, zero, suc, ◌-◌, ◌^◌, List, [], ◌∷◌, map, true, false, length, get_or, take, leb, ltb, Result, Ok, Err}
 use Rattle.ints.specs.Spelling.{kept, radix_of, after_prefix, sign_by, after_sign, digit_of, value_of}
 use Rattle.ints.specs.declared.Sign.{Sign}
 use Rattle.ints.specs.declared.Sign.TheVariants.{Absent, Plus, Minus}
 use Rattle.ints.specs.declared.IntFault.{IntFault}
 use Rattle.ints.specs.declared.IntFault.TheVariants.{Empty, InvalidDigit, TooLarge, TooSmall}
-use Rattle.ints.specs.declared.IntAnswer.{IntAnswer}
-use Rattle.ints.specs.declared.IntAnswer.TheVariants.{Value, Fault}
+use Rattle.ints.specs.declared.Int.{Int}
 
 -- The largest magnitude that an i64 has with this sign: i64::MIN is one further from 0 than i64::MAX.
 abbrev pub largest : Sign → ℕ
@@ -41,27 +40,30 @@ unfoldable pub first_of : (ℕ → Found) → ℕ → ℕ → Found
 first_of at i zero = right
 first_of at i (suc n) = elim (at i) as (λ _. Found) [ right ↦ first_of at (suc i) n | wrong f ↦ wrong f ]
 
+abbrev pub as_int : Sign → ℕ → Int
+as_int sign magnitude = record { sign = sign; magnitude = magnitude }
+
 -- a fault where one was found, else the value with its sign
-abbrev pub answered : Sign → ℕ → Found → IntAnswer
-answered sign magnitude right = Value sign magnitude
-answered sign magnitude (wrong f) = Fault f
+abbrev pub answered : Sign → ℕ → Found → Result Int IntFault
+answered sign magnitude right = Ok (as_int sign magnitude)
+answered sign magnitude (wrong f) = Err f
 
 -- the bytes after the sign, as a number
-unfoldable pub number_of : ℕ → Sign → List ℕ → IntAnswer
+unfoldable pub number_of : ℕ → Sign → List ℕ → Result Int IntFault
 number_of radix sign bytes = answered sign (value_of radix (map digit_of bytes)) (first_of (found_at radix sign bytes) 0 (length bytes))
 
 -- "a sign alone is an invalid digit"
-unfoldable pub afterwards : ℕ → Sign → List ℕ → IntAnswer
-afterwards radix sign [] = Fault InvalidDigit
+unfoldable pub afterwards : ℕ → Sign → List ℕ → Result Int IntFault
+afterwards radix sign [] = Err InvalidDigit
 afterwards radix sign (b ∷ bs) = number_of radix sign (b ∷ bs)
 
 -- `i64::from_str_radix`: nothing at all is Empty; then an optional sign, then digits
-unfoldable pub from_str_radix : ℕ → List ℕ → IntAnswer
-from_str_radix radix [] = Fault Empty
+unfoldable pub from_str_radix : ℕ → List ℕ → Result Int IntFault
+from_str_radix radix [] = Err Empty
 from_str_radix radix (b ∷ bs) = afterwards radix (sign_by b) (after_sign (sign_by b) (b ∷ bs))
 
 -- an Int token's answer: underscores dropped, the prefix taken, then from_str_radix
-unfoldable pub int_of : List ℕ → IntAnswer
+unfoldable pub int_of : List ℕ → Result Int IntFault
 int_of bytes = from_str_radix (radix_of (kept bytes)) (after_prefix (kept bytes))
 
 -- the faults' numbers, in the order of the document: "empty, invalid digit, too large, too small"

@@ -1,11 +1,11 @@
 -- What an answer means, and what a spelling means, each said without the other.
-use Rattle.std.specs.Prelude.{ℕ, ◌<◌, ◌≡◌, List, map, length, get_or, ℤ, pos, neg_ℤ}
+use Rattle.std.specs.Prelude.{ℕ, ◌<◌, ◌≡◌, List, map, length, get_or, ℤ, pos, neg_ℤ, Result, Ok, Err}
 use Rattle.ints.specs.Spelling.{kept, radix_of, after_prefix, sign_by, after_sign, digit_of, value_of}
 use Rattle.ints.specs.Answer.{fault_number}
 use Rattle.ints.specs.declared.Sign.{Sign}
 use Rattle.ints.specs.declared.Sign.TheVariants.{Absent, Plus, Minus}
-use Rattle.ints.specs.declared.IntAnswer.{IntAnswer}
-use Rattle.ints.specs.declared.IntAnswer.TheVariants.{Value, Fault}
+use Rattle.ints.specs.declared.IntFault.{IntFault}
+use Rattle.ints.specs.declared.Int.{Int}
 
 -- a magnitude with its sign, as a whole number
 abbrev pub signed : Sign → ℕ → ℤ
@@ -18,9 +18,9 @@ pub data Meaning : Type 0 where
   number : ℤ → Meaning
   fault : ℕ → Meaning
 
-abbrev pub meant : IntAnswer → Meaning
-meant (Value sign n) = number (signed sign n)
-meant (Fault f) = fault (fault_number f)
+abbrev pub meant : Result Int IntFault → Meaning
+meant (Ok x) = number (signed x.sign x.magnitude)
+meant (Err f) = fault (fault_number f)
 
 -- what stands after underscores, prefix and sign are taken away
 abbrev pub sign_of : List ℕ → Sign

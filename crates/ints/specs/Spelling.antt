@@ -1,6 +1,6 @@
 -- How an integer is spelled: the last rule of the document and Rust's documentation of `i64::from_str_radix`.
 -- A spelling is a list of bytes; nothing is assumed of it.
-use Rattle.std.specs.Prelude.{ℕ, ◌+◌, ◌-◌, ◌*◌, ◌^◌, List, [], ◌∷◌, Bool, true, false, ◌&&◌, length, get_or, drop, eqb, leb}
+use Rattle.std.specs.Prelude.{ℕ, ◌+◌, ◌-◌, ◌*◌, ◌^◌, List, [], ◌∷◌, Bool, true, false, ◌&&◌, length, get_or, drop, eqb, leb, Option, Some, None, unwrap_or}
 use Rattle.ints.specs.declared.Sign.{Sign}
 use Rattle.ints.specs.declared.Sign.TheVariants.{Absent, Plus, Minus}
 
@@ -9,20 +9,24 @@ unfoldable pub kept : List ℕ → List ℕ
 kept [] = []
 kept (b ∷ bs) = elim (eqb b 95) as (λ _. List ℕ) [ true ↦ kept bs | false ↦ b ∷ kept bs ]
 
--- the radix that the byte after a leading 0 names: x 16, o 8, b 2; any other byte names none, and the radix is 10
-unfoldable pub radix_by : ℕ → ℕ
-radix_by b = elim (eqb b 120) as (λ _. ℕ) [
-  | true ↦ 16
-  | false ↦ elim (eqb b 111) as (λ _. ℕ) [ true ↦ 8 | false ↦ elim (eqb b 98) as (λ _. ℕ) [ true ↦ 2 | false ↦ 10 ] ]
+-- the radix that the byte after a leading 0 names: x 16, o 8, b 2; any other byte names none
+unfoldable pub radix_by : ℕ → Option ℕ
+radix_by b = elim (eqb b 120) as (λ _. Option ℕ) [
+  | true ↦ Some 16
+  | false ↦ elim (eqb b 111) as (λ _. Option ℕ) [ true ↦ Some 8 | false ↦ elim (eqb b 98) as (λ _. Option ℕ) [ true ↦ Some 2 | false ↦ None ] ]
 ]
 
--- "take the prefix 0x, 0o or 0b": the radix, 10 where there is no prefix
+-- "take the prefix 0x, 0o or 0b": the radix that it names, where there is one
+abbrev pub prefix_radix : List ℕ → Option ℕ
+prefix_radix s = elim (eqb (get_or s 0 0) 48) as (λ _. Option ℕ) [ true ↦ radix_by (get_or s 1 0) | false ↦ None ]
+
+-- the radix, 10 where there is no prefix
 unfoldable pub radix_of : List ℕ → ℕ
-radix_of s = elim (eqb (get_or s 0 0) 48) as (λ _. ℕ) [ true ↦ radix_by (get_or s 1 0) | false ↦ 10 ]
+radix_of s = unwrap_or (prefix_radix s) 10
 
 -- what follows the prefix
 unfoldable pub after_prefix : List ℕ → List ℕ
-after_prefix s = elim (eqb (radix_of s) 10) as (λ _. List ℕ) [ true ↦ s | false ↦ drop 2 s ]
+after_prefix s = elim (prefix_radix s) as (λ _. List ℕ) [ None ↦ s | Some radix ↦ drop 2 s ]
 
 -- "an optional sign": what the first byte says of it
 unfoldable pub sign_by : ℕ → Sign

@@ -2,18 +2,18 @@
 -- not meet the contract. `Post` is the contract as the check reads it from the source. Some of the slips are must-fail edits besides.
 -- Assumes nothing.
 use mathlib.Core.Path.{◌≡◌, refl, ap}
-use mathlib.Core.List.{List}
+use mathlib.Core.List.{List, []}
+use lib.ListN.{length}
 use mathlib.Core.Bool.{true, false}
 use Prim.Native.Nat.{ℕ, suc, ◌*◌}
 use borrow.Author.Tests.{eqb-false}
 use lib.Dec.{eqb}
 use denote.Ref.{Bor}
+use Rattle.std.specs.Prelude.{Option, Some, None}
+use Rattle.kinds.specs.declared.types.ValueType.{ValueType}
+use Rattle.kinds.specs.declared.operator.BinOp.{BinOp}
 use Rattle.kinds.specs.declared.operator.BinOp.TheVariants as ops
-use Rattle.kinds.specs.declared.operator.Operator.{Operator}
-use Rattle.kinds.specs.declared.operator.Operator.TheVariants.{Binary, Nothing}
 use Rattle.kinds.specs.declared.types.ValueType.TheVariants as values
-use Rattle.kinds.specs.declared.types.TypeWord.{TypeWord}
-use Rattle.kinds.specs.declared.types.TypeWord.TheVariants.{Known, Unknown}
 use Rattle.kinds.specs.Number as kind
 use Rattle.kinds.specs.Spelling.{bytes, equal}
 use Rattle.kinds.specs.Kinds.{is_trivia}
@@ -29,6 +29,7 @@ use Rattle.kinds.proofs.operator.bin_op.Reads as bin-op
 use Rattle.kinds.proofs.operator.assign_op.Reads as assign-op
 use Rattle.kinds.proofs.operator.op_kind.Reads as op-kind
 use Rattle.kinds.proofs.operator.precedence.Reads as precedence
+use Rattle.kinds.proofs.types.part.Reads as part
 use Rattle.kinds.proofs.types.same_bytes.Reads as same_bytes
 use Rattle.kinds.proofs.types.type_word.Reads as type-word
 use Rattle.kinds.proofs.types.value_type_number.Reads as value-type-number
@@ -46,13 +47,13 @@ abbrev itself : ℕ → ℕ
 itself n = n
 
 -- a number for each operator, and for each type word
-abbrev operator : Operator → ℕ
-operator (Binary op) = op_kind op
-operator Nothing = 0
+abbrev operator : Option BinOp → ℕ
+operator (Some op) = op_kind op
+operator None = 0
 
-abbrev typed : TypeWord → ℕ
-typed (Known v) = suc (type_number v)
-typed Unknown = 0
+abbrev typed : Option ValueType → ℕ
+typed (Some v) = suc (type_number v)
+typed None = 0
 
 -- the table
 
@@ -90,19 +91,19 @@ name-byte-past-the-end κs x p = apart itself p refl
 
 -- operators
 
-pub bin-op-lt-for-le : (κs : _) (x : _) → bin-op.Post κs (kind.LtEq, tt) (Binary ops.Lt) x → ⊥
+pub bin-op-lt-for-le : (κs : _) (x : _) → bin-op.Post κs (kind.LtEq, tt) (Some ops.Lt) x → ⊥
 unfolding binary_of
 bin-op-lt-for-le κs x p = apart operator p refl
 
-pub bin-op-without-is : (κs : _) (x : _) → bin-op.Post κs (kind.Is, tt) Nothing x → ⊥
+pub bin-op-without-is : (κs : _) (x : _) → bin-op.Post κs (kind.Is, tt) None x → ⊥
 unfolding binary_of
 bin-op-without-is κs x p = apart operator p refl
 
-pub assign-op-add-for-sub : (κs : _) (x : _) → assign-op.Post κs (kind.SubAssign, tt) (Binary ops.Add) x → ⊥
+pub assign-op-add-for-sub : (κs : _) (x : _) → assign-op.Post κs (kind.SubAssign, tt) (Some ops.Add) x → ⊥
 unfolding compound_of
 assign-op-add-for-sub κs x p = apart operator p refl
 
-pub assign-op-without-mul : (κs : _) (x : _) → assign-op.Post κs (kind.MulAssign, tt) Nothing x → ⊥
+pub assign-op-without-mul : (κs : _) (x : _) → assign-op.Post κs (kind.MulAssign, tt) None x → ⊥
 unfolding compound_of
 assign-op-without-mul κs x p = apart operator p refl
 
@@ -118,6 +119,14 @@ precedence-of-or κs x p = apart itself p refl
 pub precedence-of-add-alone : (κs : _) (x : _) → precedence.Post κs (ops.Mul, tt) 4 x → ⊥
 precedence-of-add-alone κs x p = apart itself p refl
 
+-- parts of a text
+
+pub part-to-the-end : (κs : _) (x : _) → part.Post κs (lent (bytes "a is int"), (2, (4, tt))) (lent (bytes "is int")) x → ⊥
+part-to-the-end κs x p = apart length p refl
+
+pub part-empty-past-the-end : (κs : _) (x : _) → part.Post κs (lent (bytes "int"), (0, (4, tt))) (lent []) x → ⊥
+part-empty-past-the-end κs x p = apart length p refl
+
 -- type words
 
 pub same-bytes-first-byte-alone : (κs : _) (x : _) → same_bytes.Post κs (lent (bytes "iii"), (0, (3, (lent (bytes "int"), tt)))) true x → ⊥
@@ -128,15 +137,15 @@ pub same-bytes-stops-at-start : (κs : _) (x : _) → same_bytes.Post κs (lent 
 unfolding equal
 same-bytes-stops-at-start κs x p = apart flag p refl
 
-pub type-word-float-for-int : (κs : _) (x : _) → type-word.Post κs (lent (bytes "a is int"), (5, (8, tt))) (Known values.Float) x → ⊥
+pub type-word-float-for-int : (κs : _) (x : _) → type-word.Post κs (lent (bytes "a is int"), (5, (8, tt))) (Some values.Float) x → ⊥
 unfolding type_word equal
 type-word-float-for-int κs x p = apart typed p refl
 
-pub type-word-misspelled : (κs : _) (x : _) → type-word.Post κs (lent (bytes "userdate"), (0, (8, tt))) (Known values.UserData) x → ⊥
+pub type-word-misspelled : (κs : _) (x : _) → type-word.Post κs (lent (bytes "userdate"), (0, (8, tt))) (Some values.UserData) x → ⊥
 unfolding type_word equal
 type-word-misspelled κs x p = apart typed p refl
 
-pub type-word-null-for-unknown : (κs : _) (x : _) → type-word.Post κs (lent (bytes "null"), (0, (4, tt))) (Known values.Null) x → ⊥
+pub type-word-null-for-unknown : (κs : _) (x : _) → type-word.Post κs (lent (bytes "null"), (0, (4, tt))) (Some values.Null) x → ⊥
 unfolding type_word equal
 type-word-null-for-unknown κs x p = apart typed p refl
 

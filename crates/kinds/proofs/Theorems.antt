@@ -11,12 +11,11 @@ use mathlib.Core.Path.{◌≡◌, refl}
 use lib.Dec.{T, eqb, ltb, eqb→eq}
 use lib.ListN.{length}
 use borrow.Author.Tests.{le-ltb}
+use Rattle.std.specs.Prelude.{Some, None}
 use Rattle.kinds.specs.declared.operator.BinOp.{BinOp}
 use Rattle.kinds.specs.declared.operator.BinOp.TheVariants as op
-use Rattle.kinds.specs.declared.operator.Operator.TheVariants.{Binary}
 use Rattle.kinds.specs.declared.types.ValueType.{ValueType}
 use Rattle.kinds.specs.declared.types.ValueType.TheVariants as type
-use Rattle.kinds.specs.declared.types.TypeWord.TheVariants.{Known, Unknown}
 use Rattle.kinds.specs.Number as kind
 use Rattle.kinds.specs.Spelling.{bytes, whether, equal}
 use Rattle.kinds.specs.Kinds.{order, kind_number, is_trivia}
@@ -152,7 +151,7 @@ unfolding level_of binary_of
 levels = refl
 
 -- an operator's kind stands for that operator and is listed by its case
-pub operator-kept : (o : BinOp) → (binary_of (op_kind o) ≡ Binary o) × (listing_name (op_kind o) ≡ case_of o)
+pub operator-kept : (o : BinOp) → (binary_of (op_kind o) ≡ Some o) × (listing_name (op_kind o) ≡ case_of o)
 unfolding binary_of listing_name
 operator-kept op.Add = (refl, refl)
 operator-kept op.Sub = (refl, refl)
@@ -190,11 +189,11 @@ unfolding name_at name_bytes type_name_place
 types-named = refl
 
 -- the nine words name their types; null and a word cut short name none
-pub words-known : map (λ p. type_word (bytes p.0)) words ≡ map (λ p. Known p.1) words
+pub words-known : map (λ p. type_word (bytes p.0)) words ≡ map (λ p. Some p.1) words
 unfolding type_word equal
 words-known = refl
 
-pub words-unknown : map (λ s. type_word (bytes s)) ("null" ∷ "boo" ∷ "ints" ∷ "Int" ∷ "" ∷ []) ≡ Unknown ∷ Unknown ∷ Unknown ∷ Unknown ∷ Unknown ∷ []
+pub words-unknown : map (λ s. type_word (bytes s)) ("null" ∷ "boo" ∷ "ints" ∷ "Int" ∷ "" ∷ []) ≡ None ∷ None ∷ None ∷ None ∷ None ∷ []
 unfolding type_word equal
 words-unknown = refl
 
@@ -203,15 +202,15 @@ abbrev pub IsWord : List ℕ → ValueType → List (String × ValueType) → Ty
 IsWord b v [] = ⊥
 IsWord b v (p ∷ ps) = ((b ≡ bytes p.0) × (v ≡ p.1)) ⊎ IsWord b v ps
 
-word-in : (b : List ℕ) (v : ValueType) (ps : List (String × ValueType)) → word_in b ps ≡ Known v → IsWord b v ps
+word-in : (b : List ℕ) (v : ValueType) (ps : List (String × ValueType)) → word_in b ps ≡ Some v → IsWord b v ps
 word-in b v [] e = let z : ◌≡◌ {A = ℕ} 0 1 = cc in omega arith
 word-in b v (p ∷ ps) e = go (equal b (bytes p.0)) refl e (word-in b v ps)
   where
-    go : (t : Bool) → equal b (bytes p.0) ≡ t → whether t (Known p.1) (word_in b ps) ≡ Known v → (word_in b ps ≡ Known v → IsWord b v ps) → IsWord b v (p ∷ ps)
+    go : (t : Bool) → equal b (bytes p.0) ≡ t → whether t (Some p.1) (word_in b ps) ≡ Some v → (word_in b ps ≡ Some v → IsWord b v ps) → IsWord b v (p ∷ ps)
     go true h g rest = inl (equal-same b (bytes p.0) h, cc)
     go false h g rest = inr (rest g)
 
 -- a range names a type only by the bytes of its word
-pub word_bytes : (b : List ℕ) (v : ValueType) → type_word b ≡ Known v → IsWord b v words
+pub word_bytes : (b : List ℕ) (v : ValueType) → type_word b ≡ Some v → IsWord b v words
 unfolding type_word
 word_bytes b v e = word-in b v words e

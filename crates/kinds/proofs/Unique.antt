@@ -10,6 +10,7 @@ use Rattle.kinds.proofs.operator.bin_op.Reads as bin-op
 use Rattle.kinds.proofs.operator.assign_op.Reads as assign-op
 use Rattle.kinds.proofs.operator.op_kind.Reads as op-kind
 use Rattle.kinds.proofs.operator.precedence.Reads as precedence
+use Rattle.kinds.proofs.types.part.Reads as part
 use Rattle.kinds.proofs.types.same_bytes.Reads as same_bytes
 use Rattle.kinds.proofs.types.type_word.Reads as type-word
 use Rattle.kinds.proofs.types.value_type_number.Reads as value-type-number
@@ -38,6 +39,10 @@ one-op-kind κs args r s exit p q = p ∙ sym q
 
 pub one-precedence : (κs : _) (args : _) (r s : _) (exit : _) → precedence.Post κs args r exit → precedence.Post κs args s exit → r ≡ s
 one-precedence κs args r s exit p q = p ∙ sym q
+
+-- of a part that is lent, the bytes are one
+pub one-part : (κs : _) (args : _) (r s : _) (exit : _) → part.Post κs args r exit → part.Post κs args s exit → r.now ≡ s.now
+one-part κs args r s exit p q = p ∙ sym q
 
 pub one-same-bytes : (κs : _) (args : _) (r s : _) (exit : _) → same_bytes.Post κs args r exit → same_bytes.Post κs args s exit → r ≡ s
 one-same-bytes κs args r s exit p q = p ∙ sym q

@@ -1,9 +1,8 @@
 -- How the lister spells what a token becomes: the Rust's case of it.
-use Rattle.std.specs.Prelude.{ℕ, zero, suc, ◌+◌, List, [], ◌∷◌, eqb, drop}
+use Rattle.std.specs.Prelude.{ℕ, zero, suc, ◌+◌, List, [], ◌∷◌, eqb, drop, Option, Some, None}
 use Prim.Native.String.{String, ◌++◌, len}
 use lib.Text.{eqt}
-use Rattle.kinds.specs.declared.operator.Operator.{Operator}
-use Rattle.kinds.specs.declared.operator.Operator.TheVariants.{Binary, Nothing}
+use Rattle.kinds.specs.declared.operator.BinOp.{BinOp}
 use Rattle.kinds.specs.Spelling.{bytes, whether}
 use Rattle.kinds.specs.Kinds.{kind_name}
 use Rattle.kinds.specs.Operators.{binary, compound, beside, case_of}
@@ -24,9 +23,9 @@ leaves =
     ∷ []
 
 -- the case of an operator, or else the other answer
-abbrev pub operator_or : Operator → String → String
-operator_or (Binary op) s = case_of op
-operator_or Nothing s = s
+abbrev pub operator_or : Option BinOp → String → String
+operator_or (Some op) s = case_of op
+operator_or None s = s
 
 abbrev pub leaf_or : String → List (String × String) → String → String
 leaf_or s [] other = other

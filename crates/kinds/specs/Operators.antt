@@ -1,5 +1,5 @@
 -- The binary operators, after operator.rs and the two places of parser.rs that go from a token kind to an operator.
-use Rattle.std.specs.Prelude.{ℕ, List, [], ◌∷◌}
+use Rattle.std.specs.Prelude.{ℕ, List, [], ◌∷◌, Option, Some, None}
 use Prim.Native.String.{String}
 use lib.Text.{eqt}
 use Rattle.kinds.specs.declared.operator.BinOp.{BinOp}
@@ -19,8 +19,6 @@ use Rattle.kinds.specs.declared.operator.BinOp.TheVariants.{
   Ge,
   Is,
 }
-use Rattle.kinds.specs.declared.operator.Operator.{Operator}
-use Rattle.kinds.specs.declared.operator.Operator.TheVariants.{Binary, Nothing}
 use Rattle.kinds.specs.Spelling.{whether}
 use Rattle.kinds.specs.Kinds.{kind_name, kind_number}
 
@@ -54,14 +52,14 @@ compound =
     ∷ []
 
 -- the operator that stands beside a name
-abbrev pub beside : String → List (String × BinOp) → Operator
-beside s [] = Nothing
-beside s (p ∷ ps) = whether (eqt s p.0) (Binary p.1) (beside s ps)
+abbrev pub beside : String → List (String × BinOp) → Option BinOp
+beside s [] = None
+beside s (p ∷ ps) = whether (eqt s p.0) (Some p.1) (beside s ps)
 
-unfoldable pub binary_of : ℕ → Operator
+unfoldable pub binary_of : ℕ → Option BinOp
 binary_of k = beside (kind_name k) binary
 
-unfoldable pub compound_of : ℕ → Operator
+unfoldable pub compound_of : ℕ → Option BinOp
 compound_of k = beside (kind_name k) compound
 
 -- levels: * / % 5; + - 4; comparisons and `is` 3; and 2; or 1
@@ -82,9 +80,9 @@ precedence_of Ge = 3
 precedence_of Is = 3
 
 -- the level of a token kind: that of the operator which it stands for, and 0 where it stands for none
-abbrev pub level_by : Operator → ℕ
-level_by (Binary op) = precedence_of op
-level_by Nothing = 0
+abbrev pub level_by : Option BinOp → ℕ
+level_by (Some op) = precedence_of op
+level_by None = 0
 
 unfoldable pub level_of : ℕ → ℕ
 level_of k = level_by (binary_of k)

@@ -1,5 +1,5 @@
 -- The types of values and the words for them after `is`.
-use Rattle.std.specs.Prelude.{ℕ, List, [], ◌∷◌, get_or}
+use Rattle.std.specs.Prelude.{ℕ, List, [], ◌∷◌, get_or, Option, Some, None}
 use Prim.Native.String.{String}
 use Rattle.kinds.specs.declared.types.ValueType.{ValueType}
 use Rattle.kinds.specs.declared.types.ValueType.TheVariants.{
@@ -14,8 +14,6 @@ use Rattle.kinds.specs.declared.types.ValueType.TheVariants.{
   Effect,
   UserData,
 }
-use Rattle.kinds.specs.declared.types.TypeWord.{TypeWord}
-use Rattle.kinds.specs.declared.types.TypeWord.TheVariants.{Known, Unknown}
 use Rattle.kinds.specs.Spelling.{bytes, whether, equal}
 use Rattle.kinds.specs.Listing.{place_of}
 
@@ -34,11 +32,11 @@ words =
     ∷ []
 
 -- the type whose word has just these bytes
-abbrev pub word_in : List ℕ → List (String × ValueType) → TypeWord
-word_in b [] = Unknown
-word_in b (p ∷ ps) = whether (equal b (bytes p.0)) (Known p.1) (word_in b ps)
+abbrev pub word_in : List ℕ → List (String × ValueType) → Option ValueType
+word_in b [] = None
+word_in b (p ∷ ps) = whether (equal b (bytes p.0)) (Some p.1) (word_in b ps)
 
-unfoldable pub type_word : List ℕ → TypeWord
+unfoldable pub type_word : List ℕ → Option ValueType
 type_word b = word_in b words
 
 -- the types in ValueType's order, counted from 0

@@ -5,13 +5,12 @@ pub mod operator;
 pub mod table;
 pub mod types;
 
-pub use operator::{BinOp, Operator, assign_op, bin_op, op_kind, precedence};
+pub use operator::{BinOp, assign_op, bin_op, op_kind, precedence};
 pub use table::{is_trivia, level, name_byte, name_place};
-pub use types::{
-    TypeWord, ValueType, same_bytes, type_word, value_type_name_place, value_type_number,
-};
+pub use types::{ValueType, part, same_bytes, type_word, value_type_name_place, value_type_number};
 
-// The numbers of the token kinds, counted from 0 as token.rs declares them.
+// The numbers of the token kinds, counted from 0 as token.rs declares them. They stay numbers: tokens and records have them as words of the C
+// interface, and a word of a token may be no kind at all.
 pub const LINE_COMMENT: u8 = 0;
 
 pub const BLOCK_COMMENT: u8 = 1;

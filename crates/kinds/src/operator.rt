@@ -8,70 +8,65 @@ use super::{
     OR, REM, REM_ASSIGN, SUB, SUB_ASSIGN,
 };
 
-#[derive(Clone, Copy)]
+// Each has the number of the token kind that it is written with.
+#[derive(Clone, Copy, Debug, PartialEq, Eq)]
 pub enum BinOp {
-    Add,
-    Sub,
-    Mul,
-    Div,
-    Rem,
-    And,
-    Or,
-    Eq,
-    Ne,
-    Lt,
-    Le,
-    Gt,
-    Ge,
-    Is,
-}
-
-#[derive(Clone, Copy)]
-pub enum Operator {
-    Binary(BinOp),
-    Nothing,
+    Add = ADD as isize,
+    Sub = SUB as isize,
+    Mul = MUL as isize,
+    Div = DIV as isize,
+    Rem = REM as isize,
+    And = AND as isize,
+    Or = OR as isize,
+    Eq = EQ as isize,
+    Ne = NOT_EQ as isize,
+    Lt = LT as isize,
+    Le = LT_EQ as isize,
+    Gt = GT as isize,
+    Ge = GT_EQ as isize,
+    Is = IS as isize,
 }
 
 // The operator that goes on with an expression; `is` is told apart by the caller.
-pub fn bin_op(kind: u32) -> Operator
+pub fn bin_op(kind: u32) -> Option<BinOp>
     ensures { result ≡ binary_of kind }
 {
-    if 78 < kind {
-        return Operator::Nothing;
-    }
-    match kind as u8 {
-        ADD => Operator::Binary(BinOp::Add),
-        SUB => Operator::Binary(BinOp::Sub),
-        MUL => Operator::Binary(BinOp::Mul),
-        DIV => Operator::Binary(BinOp::Div),
-        REM => Operator::Binary(BinOp::Rem),
-        AND => Operator::Binary(BinOp::And),
-        OR => Operator::Binary(BinOp::Or),
-        EQ => Operator::Binary(BinOp::Eq),
-        NOT_EQ => Operator::Binary(BinOp::Ne),
-        LT => Operator::Binary(BinOp::Lt),
-        LT_EQ => Operator::Binary(BinOp::Le),
-        GT => Operator::Binary(BinOp::Gt),
-        GT_EQ => Operator::Binary(BinOp::Ge),
-        IS => Operator::Binary(BinOp::Is),
-        _ => Operator::Nothing,
+    let Ok(kind) = u8::try_from(kind) else {
+        return None;
+    };
+    match kind {
+        ADD => Some(BinOp::Add),
+        SUB => Some(BinOp::Sub),
+        MUL => Some(BinOp::Mul),
+        DIV => Some(BinOp::Div),
+        REM => Some(BinOp::Rem),
+        AND => Some(BinOp::And),
+        OR => Some(BinOp::Or),
+        EQ => Some(BinOp::Eq),
+        NOT_EQ => Some(BinOp::Ne),
+        LT => Some(BinOp::Lt),
+        LT_EQ => Some(BinOp::Le),
+        GT => Some(BinOp::Gt),
+        GT_EQ => Some(BinOp::Ge),
+        IS => Some(BinOp::Is),
+        _ => None,
     }
 }
 
 // The operator of a compound assignment.
-pub fn assign_op(kind: u32) -> Operator
+pub fn assign_op(kind: u32) -> Option<BinOp>
     ensures { result ≡ compound_of kind }
 {
-    if 78 < kind {
-        return Operator::Nothing;
-    }
-    match kind as u8 {
-        ADD_ASSIGN => Operator::Binary(BinOp::Add),
-        SUB_ASSIGN => Operator::Binary(BinOp::Sub),
-        MUL_ASSIGN => Operator::Binary(BinOp::Mul),
-        DIV_ASSIGN => Operator::Binary(BinOp::Div),
-        REM_ASSIGN => Operator::Binary(BinOp::Rem),
-        _ => Operator::Nothing,
+    let Ok(kind) = u8::try_from(kind) else {
+        return None;
+    };
+    match kind {
+        ADD_ASSIGN => Some(BinOp::Add),
+        SUB_ASSIGN => Some(BinOp::Sub),
+        MUL_ASSIGN => Some(BinOp::Mul),
+        DIV_ASSIGN => Some(BinOp::Div),
+        REM_ASSIGN => Some(BinOp::Rem),
+        _ => None,
     }
 }
 
@@ -79,22 +74,7 @@ pub fn assign_op(kind: u32) -> Operator
 pub fn op_kind(op: BinOp) -> u8
     ensures { result ≡ op_kind op }
 {
-    match op {
-        BinOp::Add => ADD,
-        BinOp::Sub => SUB,
-        BinOp::Mul => MUL,
-        BinOp::Div => DIV,
-        BinOp::Rem => REM,
-        BinOp::And => AND,
-        BinOp::Or => OR,
-        BinOp::Eq => EQ,
-        BinOp::Ne => NOT_EQ,
-        BinOp::Lt => LT,
-        BinOp::Le => LT_EQ,
-        BinOp::Gt => GT,
-        BinOp::Ge => GT_EQ,
-        BinOp::Is => IS,
-    }
+    op as u8
 }
 
 pub fn precedence(op: BinOp) -> u8

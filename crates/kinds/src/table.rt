@@ -95,7 +95,7 @@ const NAMES: [u8; 120] =
 fn row(kind: u32) -> u16
     ensures { Row kind result }
 {
-    if kind < 79 { TABLE[kind as usize] } else { 0 }
+    TABLE.get(kind as usize).copied().unwrap_or(0)
 }
 
 pub fn is_trivia(kind: u32) -> bool
@@ -122,5 +122,5 @@ pub fn name_place(kind: u32) -> usize
 pub fn name_byte(place: usize) -> u8
     ensures { result ≡ get_or name_bytes place 32 }
 {
-    if place < 120 { NAMES[place] } else { b' ' }
+    NAMES.get(place).copied().unwrap_or(b' ')
 }

@@ -72,5 +72,5 @@ unfolding rules-Atoms.paren_expr rules-Atoms.list_expr rules-Atoms.return_expr r
 of-exprs = 0
 
 unfoldable pub of-parser : ℕ
-unfolding parser-Blank.up_to parser-Finish.finished parser-Parse.reading parser-Parse.parse
+unfolding parser-Blank.cleared parser-Finish.finished parser-Parse.reading parser-Parse.parse
 of-parser = 0

@@ -2,140 +2,144 @@
 // string that is refused, those of the document's rules.
 #![tactic(auto)]
 
-ghost use Rattle.std.specs.Prelude.{◌<◌};
-
 use answer::answer;
+use listing::LENT_OUT;
+use std::alloc::{AllocError, Global};
+use std::io;
+use std::io::Write;
 
-// The number of the open file of a program that is the standard output.
-const STDOUT_FILENO: i32 = 1;
+// A token's kind, and the bytes that it takes: the tokens of a sheet lie side by side.
+type Token = (u8, u8);
 
-// The tokens of `fn f () {+}`.
-const KEPT: [u8; 20] = [
-    29, 2, 2, 1, 4, 1, 2, 1, 50, 1, 51, 1, 2, 1, 52, 1, 64, 1, 53, 1,
+const SHEETS: [(&[u8], &[Token]); 20] = [
+    // These are also in the proved table.
+    (b"", &[]),
+    (
+        b"a is int * b",
+        &[
+            (4, 1),
+            (2, 1),
+            (23, 2),
+            (2, 1),
+            (4, 3),
+            (2, 1),
+            (66, 1),
+            (2, 1),
+            (4, 1),
+        ],
+    ),
+    (b"{\n}", &[(52, 1), (69, 1), (53, 1)]),
+    (b"{1}", &[(52, 1), (5, 1), (53, 1)]),
+    (b"{(x)}", &[(52, 1), (50, 1), (4, 1), (51, 1), (53, 1)]),
+    (
+        b"{(x): 1}",
+        &[
+            (52, 1),
+            (50, 1),
+            (4, 1),
+            (51, 1),
+            (59, 1),
+            (2, 1),
+            (5, 1),
+            (53, 1),
+        ],
+    ),
+    (
+        b"{({(x)})}",
+        &[
+            (52, 1),
+            (50, 1),
+            (52, 1),
+            (50, 1),
+            (4, 1),
+            (51, 1),
+            (53, 1),
+            (51, 1),
+            (53, 1),
+        ],
+    ),
+    (
+        b"fn () {}",
+        &[(29, 2), (2, 1), (50, 1), (51, 1), (2, 1), (52, 1), (53, 1)],
+    ),
+    (b")", &[(51, 1)]),
+    (b"import a", &[(21, 6), (2, 1), (4, 1)]),
+    (
+        b"fn f () {+}",
+        &[
+            (29, 2),
+            (2, 1),
+            (4, 1),
+            (2, 1),
+            (50, 1),
+            (51, 1),
+            (2, 1),
+            (52, 1),
+            (64, 1),
+            (53, 1),
+        ],
+    ),
+    // And others.
+    (b"not not a", &[(24, 3), (2, 1), (24, 3), (2, 1), (4, 1)]),
+    (
+        b"{a: 1}",
+        &[(52, 1), (4, 1), (59, 1), (2, 1), (5, 1), (53, 1)],
+    ),
+    (b"9223372036854775807", &[(5, 19)]),
+    (b"9223372036854775808", &[(5, 19)]),
+    (b"-9223372036854775808", &[(65, 1), (5, 19)]),
+    (b"\"", &[(7, 1)]),
+    (
+        b"{1: 2}",
+        &[(52, 1), (5, 1), (59, 1), (2, 1), (5, 1), (53, 1)],
+    ),
+    (
+        b"match x {}",
+        &[(12, 5), (2, 1), (4, 1), (2, 1), (52, 1), (53, 1)],
+    ),
+    (
+        b"match x {\n}",
+        &[(12, 5), (2, 1), (4, 1), (2, 1), (52, 1), (69, 1), (53, 1)],
+    ),
 ];
 
-// One byte more of a bundle.
-fn put(bundle: &mut [u8; 512], at: usize, byte: u8) -> usize {
-    if at < 512 {
-        bundle[at] = byte;
-        return at + 1;
+// A count in four bytes, the lowest first.
+fn put_count(bundle: &mut Vec<u8>, count: usize) -> Result<(), AllocError> {
+    bundle.extend_from_slice(&u32::try_from(count).unwrap_or(u32::MAX).to_le_bytes())
+}
+
+// The bundle of a sheet.
+fn bundle_of(alloc: Global, text: &[u8], tokens: &[Token]) -> Result<Vec<u8>, AllocError> {
+    let mut bundle = Vec::new(alloc);
+    put_count(&mut bundle, text.len())?;
+    bundle.extend_from_slice(text)?;
+    put_count(&mut bundle, tokens.len())?;
+    let mut start = 0u32;
+    for &(kind, length) in tokens {
+        let end = start.wrapping_add(u32::from(length));
+        bundle.push(kind)?;
+        bundle.extend_from_slice(&start.to_le_bytes())?;
+        bundle.extend_from_slice(&end.to_le_bytes())?;
+        start = end;
     }
-    at
-}
-
-// A number in four bytes, the lowest first. All numbers here have one.
-fn put_number(bundle: &mut [u8; 512], at: usize, number: u8) -> usize {
-    let one = put(bundle, at, number);
-    let two = put(bundle, one, 0);
-    let three = put(bundle, two, 0);
-    put(bundle, three, 0)
-}
-
-fn put_text(bundle: &mut [u8; 512], at: usize, text: &[u8]) -> usize {
-    let count = (text.len() % 0x100) as u8;
-    let mut end = put_number(bundle, at, count);
-    let mut i = 0;
-    while i < text.len() {
-        end = put(bundle, end, text[i]);
-        i += 1;
-    }
-    end
-}
-
-fn wide(byte: u8) -> usize
-    ensures { result < 256 }
-{
-    byte as usize
-}
-
-// Tokens, kind and length of each: they lie side by side.
-fn put_tokens(bundle: &mut [u8; 512], at: usize, tokens: &[u8]) -> usize {
-    let most = tokens.len() / 2;
-    let count = (most % 0x100) as u8;
-    let mut end = put_number(bundle, at, count);
-    let mut start = 0;
-    let mut j = 0;
-    while j < most {
-        let next = (start + wide(tokens[2 * j + 1])) % 0x100;
-        end = put(bundle, end, tokens[2 * j]);
-        end = put_number(bundle, end, start as u8);
-        end = put_number(bundle, end, next as u8);
-        start = next;
-        j += 1;
-    }
-    end
-}
-
-fn print(out: &[u8; 262144], end: usize) {
-    let bytes: &[u8] = out;
-    if end <= bytes.len() {
-        io::write_all(STDOUT_FILENO, &bytes[..end]);
-    }
-}
-
-fn list_bundle(bundle: &[u8; 512], end: usize) {
-    let bytes: &[u8] = bundle;
-    if end <= bytes.len() {
-        let mut out = [0u8; 262144];
-        let n = answer(&bytes[..end], &mut out);
-        print(&out, n);
-    }
+    Ok(bundle)
 }
 
 // A sheet's text after a mark, and its listing.
-fn list(text: &[u8], tokens: &[u8]) {
-    io::write_all(STDOUT_FILENO, b"> ");
-    io::write_all(STDOUT_FILENO, text);
-    io::write_all(STDOUT_FILENO, b"\n");
-    let mut bundle = [0u8; 512];
-    let middle = put_text(&mut bundle, 0, text);
-    let end = put_tokens(&mut bundle, middle, tokens);
-    list_bundle(&bundle, end);
+fn list(alloc: Global, output: &mut impl Write, text: &[u8], tokens: &[Token]) -> io::Result<()> {
+    output.write_all(b"> ")?;
+    output.write_all(text)?;
+    output.write_all(b"\n")?;
+    let bundle = bundle_of(alloc, text, tokens)?;
+    let mut out = [0u8; LENT_OUT];
+    let end = answer(&bundle, &mut out);
+    output.write_all(out.get(..end).unwrap_or_default())
 }
 
-// The sheets that are also in the proved table.
-fn proved_sheets() {
-    list(b"", &[]);
-    list(
-        b"a is int * b",
-        &[4, 1, 2, 1, 23, 2, 2, 1, 4, 3, 2, 1, 66, 1, 2, 1, 4, 1],
-    );
-    list(b"{\n}", &[52, 1, 69, 1, 53, 1]);
-    list(b"{1}", &[52, 1, 5, 1, 53, 1]);
-    list(b"{(x)}", &[52, 1, 50, 1, 4, 1, 51, 1, 53, 1]);
-    list(
-        b"{(x): 1}",
-        &[52, 1, 50, 1, 4, 1, 51, 1, 59, 1, 2, 1, 5, 1, 53, 1],
-    );
-    list(
-        b"{({(x)})}",
-        &[52, 1, 50, 1, 52, 1, 50, 1, 4, 1, 51, 1, 53, 1, 51, 1, 53, 1],
-    );
-    list(
-        b"fn () {}",
-        &[29, 2, 2, 1, 50, 1, 51, 1, 2, 1, 52, 1, 53, 1],
-    );
-    list(b")", &[51, 1]);
-    list(b"import a", &[21, 6, 2, 1, 4, 1]);
-    list(b"fn f () {+}", &KEPT);
-}
-
-fn other_sheets() {
-    list(b"not not a", &[24, 3, 2, 1, 24, 3, 2, 1, 4, 1]);
-    list(b"{a: 1}", &[52, 1, 4, 1, 59, 1, 2, 1, 5, 1, 53, 1]);
-    list(b"9223372036854775807", &[5, 19]);
-    list(b"9223372036854775808", &[5, 19]);
-    list(b"-9223372036854775808", &[65, 1, 5, 19]);
-    list(b"\"", &[7, 1]);
-    list(b"{1: 2}", &[52, 1, 5, 1, 59, 1, 2, 1, 5, 1, 53, 1]);
-    list(b"match x {}", &[12, 5, 2, 1, 4, 1, 2, 1, 52, 1, 53, 1]);
-    list(
-        b"match x {\n}",
-        &[12, 5, 2, 1, 4, 1, 2, 1, 52, 1, 69, 1, 53, 1],
-    );
-}
-
-fn main() {
-    proved_sheets();
-    other_sheets();
+fn main(rt: HostRuntime) -> io::Result<()> {
+    let mut output = io::writer(&rt);
+    for (text, tokens) in SHEETS {
+        list(rt.alloc(), &mut output, text, tokens)?;
+    }
+    Ok(())
 }

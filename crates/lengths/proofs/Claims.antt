@@ -1,9 +1,9 @@
 -- What is told of a derivation, by its symbol: of a value that it is one of its sort; of what goes on from a row, that it is told if that row is.
+use Rattle.std.specs.Prelude.{None}
 use Prim.Native.Nat.{◌^◌, ◌<◌}
 use mathlib.Core.Path.{◌≡◌}
 use mathlib.Core.List.{List, [], ◌∷◌}
-use Rattle.cursor.specs.declared.Ranged.{Ranged}
-use Rattle.cursor.specs.declared.Ranged.TheVariants as ranged
+use Rattle.cursor.specs.Sheet.{Ranged}
 use Rattle.cursor.specs.Tree.{none}
 use Rattle.types.specs.Items.{is_ended}
 use Rattle.grammar.specs.Places.{Place}
@@ -25,7 +25,7 @@ Grows s so sh = Told (each so.count s ∷ []) so.row → Told (each sh.count s �
 
 -- so does one that may have a last item behind
 abbrev pub Listed : Sort → (Ranged → List Part) → Shape → Shape → Type 0
-Listed s last so sh = so.last ≡ ranged.Nowhere → Told (each so.count s ∷ []) so.row → Told (each sh.count s ∷ last sh.last) sh.row
+Listed s last so sh = so.last ≡ None → Told (each so.count s ∷ []) so.row → Told (each sh.count s ∷ last sh.last) sh.row
 
 abbrev pub Claim : Sym → Place → Shape → Shape → Type 0
 Claim symbol.Eols p so sh = Unit {0}
@@ -80,7 +80,7 @@ pub record Valued (x : Sym) (s : Sort) : Type 0 where
 
 -- a symbol ends a list, or does not
 pub record Lastly (y : Sym) : Type 0 where
-  pub absent : Told (last_parts y ranged.Nowhere) none
+  pub absent : Told (last_parts y None) none
   pub present : (p : Place) (so sh : Shape) → Claim y p so sh → Told (last_parts y sh.last) sh.row
 
 -- what has to be known of a symbol that has other symbols or a kind in it

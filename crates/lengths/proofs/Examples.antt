@@ -1,8 +1,8 @@
 -- Sheets that the theorems speak of.
+use Rattle.std.specs.Prelude.{Ok}
 use mathlib.Core.Path.{◌≡◌, refl}
 use mathlib.Core.List.{[], ◌∷◌}
 use Rattle.kinds.specs.Spelling.{bytes}
-use Rattle.entry.specs.declared.Entry.TheVariants.{Fit}
 use Rattle.entry.specs.Utf8.{fits, first_fit, ascii_run, arrives, no_tail}
 use Rattle.entry.specs.Check.{bad_range, quoted, marked, bad_quotes, token_fault, tokens_fault, entry_of}
 use Rattle.grammar.specs.Follows.{tree_of}
@@ -13,15 +13,15 @@ use Rattle.lengths.specs.Told.{Told}
 use Rattle.lengths.proofs.Sheets.{fit-told}
 
 -- a is int * b, {1} and {(x): 1} pass the entry check
-product-fit : entry_of product-text product-tokens ≡ Fit
+product-fit : entry_of product-text product-tokens ≡ Ok tt
 unfolding entry_of tokens_fault token_fault bad_range bad_quotes quoted marked fits first_fit ascii_run arrives no_tail
 product-fit = refl
 
-number-fit : entry_of (bytes "{1}") number-tokens ≡ Fit
+number-fit : entry_of (bytes "{1}") number-tokens ≡ Ok tt
 unfolding entry_of tokens_fault token_fault bad_range bad_quotes quoted marked fits first_fit ascii_run arrives no_tail
 number-fit = refl
 
-key-fit : entry_of (bytes "{(x): 1}") key-tokens ≡ Fit
+key-fit : entry_of (bytes "{(x): 1}") key-tokens ≡ Ok tt
 unfolding entry_of tokens_fault token_fault bad_range bad_quotes quoted marked fits first_fit ascii_run arrives no_tail
 key-fit = refl
 

@@ -1,10 +1,10 @@
 -- A list of a derivation has no more items than the derivation has tokens.
+use Rattle.std.specs.Prelude.{Some, None}
 use Prim.Native.Nat.{ℕ, ◌+◌, ◌≤◌}
 use native.Mathlib.Omega.{arith}
 use mathlib.Core.Path.{refl}
 use mathlib.Core.List.{List}
 use lib.ListN.{length}
-use Rattle.cursor.specs.declared.Ranged.TheVariants as ranged
 use Rattle.cursor.specs.Node as node
 use Rattle.cursor.specs.Tree.{none, join}
 use Rattle.grammar.specs.Places.{Place, span_of, start_of}
@@ -133,8 +133,8 @@ few-items (by.no-post h l) c x so = still stays
 few-items (by.call {r = r} a d l e) c x so = fresh (token a ▸ takes d) ⊕ few-items e tt x (call_over x r so (shape d 0 blank) none)
 few-items (by.call-lambda {s = s} a d f e) c x so = fresh (token a ▸ takes d ▸ takes f) ⊕ few-items e tt x (call_over x s so (shape d 0 blank) (covered node.Closure (shape f 0 blank).row))
 few-items (by.lambda-alone {q = q} d e) c x so = fresh (takes d) ⊕ few-items e tt x (call_over x q so blank (covered node.Closure (shape d 0 blank).row))
-few-items (by.member {n = n} {q = q} d e) c x so = fresh (takes d) ⊕ few-items e tt x (member_over x q ranged.Nowhere n so (shape d 0 blank))
-few-items (by.safe-member {n = n} {p = p} {r = r} a d e) c x so = fresh (token a ▸ takes d) ⊕ few-items e tt x (member_over x r (ranged.At (span_of p)) n so (shape d 0 blank))
+few-items (by.member {n = n} {q = q} d e) c x so = fresh (takes d) ⊕ few-items e tt x (member_over x q None n so (shape d 0 blank))
+few-items (by.safe-member {n = n} {p = p} {r = r} a d e) c x so = fresh (token a ▸ takes d) ⊕ few-items e tt x (member_over x r (Some (span_of p)) n so (shape d 0 blank))
 few-items (by.bracket a d b) c x so = anew (still (token a) ⊕ few-items d tt 0 blank ⊕ still (token b))
 few-items (by.dot a d) c x so = anew (still (token a) ⊕ few-items d tt 0 blank)
 few-items (by.double-colon a d) c x so = anew (still (token a) ⊕ few-items d tt 0 blank)

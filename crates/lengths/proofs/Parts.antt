@@ -1,4 +1,5 @@
 -- Records over the parts of a production, where more than one place needs them or a case has to be told.
+use Rattle.std.specs.Prelude.{Result, Ok, Err}
 use Prim.Native.Nat.{ℕ, ◌^◌, ◌<◌}
 use native.Mathlib.Omega.{arith}
 use mathlib.Core.Path.{◌≡◌, refl, sym, ap}
@@ -8,11 +9,11 @@ use lib.Dec.{eqb}
 use Rattle.kinds.specs.Number as kind
 use Rattle.cursor.specs.declared.Label.{Label}
 use Rattle.cursor.specs.declared.Span.{Span}
-use Rattle.cursor.specs.declared.Ranged.{Ranged}
+use Rattle.cursor.specs.Sheet.{Ranged}
 use Rattle.cursor.specs.Node as node
 use Rattle.cursor.specs.Tree.{Trees, none, tree}
-use Rattle.ints.specs.declared.IntAnswer.{IntAnswer}
-use Rattle.ints.specs.declared.IntAnswer.TheVariants as ints
+use Rattle.ints.specs.declared.Int.{Int}
+use Rattle.ints.specs.declared.IntFault.{IntFault}
 use Rattle.ints.specs.Answer.{int_of}
 use Rattle.kinds.specs.Text.{part}
 use Rattle.types.specs.declared.lits.Literal.{Literal}
@@ -45,10 +46,10 @@ Leaves (literals.Value l) = Leaf l
 Leaves (literals.Faulty n) = Unit {0}
 Leaves literals.Nothing = Unit {0}
 
-int-leaves : (a : IntAnswer) (r : Span) → Leaves (int_by a r)
+int-leaves : (a : Result Int IntFault) (r : Span) → Leaves (int_by a r)
 unfolding row_of find unpack
-int-leaves (ints.Value s m) r = record { of = sort.int; names = refl; parts = refl }
-int-leaves (ints.Fault f) r = tt
+int-leaves (Ok n) r = record { of = sort.int; names = refl; parts = refl }
+int-leaves (Err f) r = tt
 
 choice : (b : Bool) (x y : Literal) → Leaves x → Leaves y → Leaves (when b x y)
 choice true x y a b = a

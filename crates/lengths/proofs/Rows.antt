@@ -1,11 +1,11 @@
 -- Rows that are told, put together: one behind the other, one more of the last sort, of a wider sort.
+use Rattle.std.specs.Prelude.{None}
 use Prim.Native.Nat.{ℕ, suc, ◌+◌}
 use native.Mathlib.Omega.{arith}
 use native.Mathlib.Numerals.{add-one}
 use mathlib.Core.Path.{◌≡◌, refl}
 use mathlib.Core.List.{List, [], ◌∷◌, ◌++◌}
-use Rattle.cursor.specs.declared.Ranged.{Ranged}
-use Rattle.cursor.specs.declared.Ranged.TheVariants as ranged
+use Rattle.cursor.specs.Sheet.{Ranged}
 use Rattle.cursor.specs.Tree.{Trees, none, join}
 use Rattle.lengths.specs.Sorts.{Sort, Of}
 use Rattle.lengths.specs.Children.{Part, each, one, total, children}
@@ -36,7 +36,7 @@ empty-behind (no_more_of x) y = no_more_of (empty-behind x y)
 empty-behind (one_of o r k x) y = one_of o r k (empty-behind x y)
 
 -- a list that no last item ends
-pub unended : {s : Sort} {n : ℕ} {t : Trees} {r : Ranged} (last : Ranged → List Part) → r ≡ ranged.Nowhere → Told (each n s ∷ []) t → Told (last ranged.Nowhere) none → Told (each n s ∷ last r) t
+pub unended : {s : Sort} {n : ℕ} {t : Trees} {r : Ranged} (last : Ranged → List Part) → r ≡ None → Told (each n s ∷ []) t → Told (last None) none → Told (each n s ∷ last r) t
 unended last e x y = rw e (empty-behind x y)
 
 -- one more of the same sort

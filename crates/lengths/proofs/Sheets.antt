@@ -1,4 +1,5 @@
 -- Every record of a sheet that follows the grammar says truly which children it has, where the tokens are fewer than 2^15.
+use Rattle.std.specs.Prelude.{Ok}
 use Prim.Native.Nat.{ℕ, ◌*◌, ◌/◌, ◌^◌, ◌<◌, ◌≤◌}
 use native.Mathlib.Omega.{arith}
 use borrow.Author.Tests.{ltb-true}
@@ -7,7 +8,6 @@ use mathlib.Core.List.{List, [], ◌∷◌}
 use mathlib.Core.Bool.{Bool, true, false}
 use lib.ListN.{length}
 use Rattle.kinds.specs.Kinds.{is_trivia}
-use Rattle.entry.specs.declared.Entry.TheVariants.{Fit}
 use Rattle.entry.specs.Check.{max_tokens, entry_of}
 use Rattle.entry.proofs.Sound.{fit-sheet}
 use Rattle.grammar.specs.Places.{Token, tokens_of, significant, before}
@@ -53,7 +53,7 @@ module _ {text tokens : List ℕ} (f : Follows text tokens) where
     told-children = told-counted told
 
   -- past the entry check, which lets 4,096 tokens through
-  module _ (fit : entry_of text tokens ≡ Fit) where
+  module _ (fit : entry_of text tokens ≡ Ok tt) where
     pub fit-told : Told (one sort.Program ∷ []) (tree_of f)
     fit-told = told max_tokens (ltb-true _ _ refl) (fit-sheet text tokens fit).few
 

@@ -4,7 +4,7 @@ use mathlib.Core.List.{List, [], ◌∷◌}
 use mathlib.Core.Bool.{false}
 use lib.Dec.{eqb}
 use Rattle.kinds.specs.Number as kind
-use Rattle.cursor.specs.declared.Ranged.{Ranged}
+use Rattle.cursor.specs.Sheet.{Ranged}
 use Rattle.types.specs.Items.{is_ended}
 use Rattle.grammar.specs.Symbols.{Sym}
 use Rattle.grammar.specs.Symbols as symbol

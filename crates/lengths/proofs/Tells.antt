@@ -1,10 +1,10 @@
 -- What a derivation is built into is told, where the tokens from its begin on are fewer than 2^15.
+use Rattle.std.specs.Prelude.{Some, None}
 use Prim.Native.Nat.{ℕ}
 use mathlib.Core.Path.{refl, sym, ◌∙◌}
 use mathlib.Core.List.{List}
 use mathlib.Core.Bool.{true, false}
 use borrow.Author.Tests.{ltb-true}
-use Rattle.cursor.specs.declared.Ranged.TheVariants as ranged
 use Rattle.cursor.specs.Node as node
 use Rattle.cursor.specs.Tree.{none, join}
 use Rattle.types.specs.Items.{is_ended}
@@ -75,10 +75,10 @@ tells (by.block_of a d) g h x so = rowed sort.block (short d tt 0 blank (h ⊳ t
 tells (by.function_of {closure = closure} {s = s} d e f) g h x so = function-told s (shape d 0 blank) (shape e 0 blank) (short d tt 0 blank h) closure (tells d tt h 0 blank refl none_yet) (tells e tt (h ⊳ takes d) 0 blank) (tells f tt (h ⊳ takes d ⊳ takes e) 0 blank)
 tells (by.effect_of a d e f) g h x so = tells d tt (h ⊳ token a) 0 blank ▹ counted (is_ended (shape e 0 blank).last) (there (shape f 0 blank).row) sort.effect (short e tt 0 blank (h ⊳ token a ⊳ takes d)) refl (tells e tt (h ⊳ token a ⊳ takes d) 0 blank refl none_yet ▹ (tells f tt (h ⊳ token a ⊳ takes d ⊳ takes e) 0 blank ▹ no_more))
 -- statements
-tells (by.fn-stmt {p = p} {s = s} a d e) g h x so = wider (λ k o. sort.an-expression o) (fn-told s ranged.Nowhere (shape e (start_of p) blank) (optional (tells d tt (h ⊳ token a) 0 blank)) (tells e tt (h ⊳ token a ⊳ takes d) (start_of p) blank))
+tells (by.fn-stmt {p = p} {s = s} a d e) g h x so = wider (λ k o. sort.an-expression o) (fn-told s None (shape e (start_of p) blank) (optional (tells d tt (h ⊳ token a) 0 blank)) (tells e tt (h ⊳ token a ⊳ takes d) (start_of p) blank))
 tells (by.import-stmt {p = p} a d) g h x so = tells d tt (h ⊳ token a) (start_of p) blank (h ⊳ token a) none_yet
 tells (by.effect-stmt d) g h x so = signed false false sort.effect-stmt refl (tells d tt h 0 blank)
-tells (by.glo-fn {p = p} {t = t} a b d e) g h x so = wider (λ k o. sort.an-expression o) (fn-told t (ranged.At (span_of p)) (shape e (start_of p) blank) (optional (tells d tt (h ⊳ token a ⊳ token b) 0 blank)) (tells e tt (h ⊳ token a ⊳ token b ⊳ takes d) (start_of p) blank))
+tells (by.glo-fn {p = p} {t = t} a b d e) g h x so = wider (λ k o. sort.an-expression o) (fn-told t (Some (span_of p)) (shape e (start_of p) blank) (optional (tells d tt (h ⊳ token a ⊳ token b) 0 blank)) (tells e tt (h ⊳ token a ⊳ token b ⊳ takes d) (start_of p) blank))
 tells (by.glo-effect a d) g h x so = signed true false sort.effect-stmt refl (tells d tt (h ⊳ token a) 0 blank)
 tells (by.glo-assign a d b e) g h x so = plain sort.glo-assign refl (tells d of-ty (h ⊳ token a) 0 blank ▹ tells e tt (h ⊳ token a ⊳ takes d ⊳ token b) 0 blank)
 tells (by.path-more d a e) g h x so = λ o t. tells e tt (h ⊳ takes d ⊳ token a) x (more so (shape d 0 blank)) (grown o (takes d) ⊳ token a) (longer t (tells d tt h 0 blank))
@@ -121,8 +121,8 @@ tells (by.no-post z l) g h x so = λ s. s
 tells (by.call {r = r} a d l e) g h x so = λ s. tells e tt (h ⊳ token a ⊳ takes d) x (call_over x r so (shape d 0 blank) none) (call-told r so (shape d 0 blank) (short d refl 0 blank (h ⊳ token a)) s (tells d arguments (h ⊳ token a) 0 blank refl none_yet) none_yet)
 tells (by.call-lambda {s = s} a d f e) g h x so = λ o. tells e tt (h ⊳ token a ⊳ takes d ⊳ takes f) x (call_over x s so (shape d 0 blank) (covered node.Closure (shape f 0 blank).row)) (call-told s so (shape d 0 blank) (short d refl 0 blank (h ⊳ token a)) o (tells d arguments (h ⊳ token a) 0 blank refl none_yet) (optional (lambda-over (tells f tt (h ⊳ token a ⊳ takes d) 0 blank))))
 tells (by.lambda-alone {q = q} d e) g h x so = λ s. tells e tt (h ⊳ takes d) x (call_over x q so blank (covered node.Closure (shape d 0 blank).row)) (call-told q so blank (ltb-true _ _ refl) s none_yet (optional (lambda-over (tells d tt h 0 blank))))
-tells (by.member {f = f} {n = n} {q = q} d e) g h x so = λ s. tells e tt (h ⊳ takes d) x (member_over x q ranged.Nowhere n so (shape d 0 blank)) (member-formed f (member-told q ranged.Nowhere so (shape d 0 blank) s (tells d tt h 0 blank)))
-tells (by.safe-member {n = n} {p = p} {r = r} a d e) g h x so = λ s. tells e tt (h ⊳ token a ⊳ takes d) x (member_over x r (ranged.At (span_of p)) n so (shape d 0 blank)) (as-other (wider (λ k o. sort.a-member o) (member-told r (ranged.At (span_of p)) so (shape d 0 blank) s (tells d tt (h ⊳ token a) 0 blank))))
+tells (by.member {f = f} {n = n} {q = q} d e) g h x so = λ s. tells e tt (h ⊳ takes d) x (member_over x q None n so (shape d 0 blank)) (member-formed f (member-told q None so (shape d 0 blank) s (tells d tt h 0 blank)))
+tells (by.safe-member {n = n} {p = p} {r = r} a d e) g h x so = λ s. tells e tt (h ⊳ token a ⊳ takes d) x (member_over x r (Some (span_of p)) n so (shape d 0 blank)) (as-other (wider (λ k o. sort.a-member o) (member-told r (Some (span_of p)) so (shape d 0 blank) s (tells d tt (h ⊳ token a) 0 blank))))
 tells (by.bracket a d b) g h x so = (ltb-true _ _ refl, tells d tt (h ⊳ token a) 0 blank)
 tells (by.dot a d) g h x so = (ltb-true _ _ refl, tells d tt (h ⊳ token a) 0 blank)
 tells (by.double-colon a d) g h x so = (ltb-true _ _ refl, tells d tt (h ⊳ token a) 0 blank)
@@ -136,9 +136,9 @@ tells (by.table a d) g h x so = as-other (rowed sort.table (short d refl 0 blank
 tells (by.block-expr a e z d) g h x so = as-other (plain sort.expr-block refl (rowed sort.block (short d tt 0 blank (h ⊳ token a ⊳ takes e)) refl (tells d tt (h ⊳ token a ⊳ takes e) 0 blank none_yet)))
 tells (by.list a d) g h x so = as-other (rowed sort.list (short d refl 0 blank (h ⊳ token a)) refl (tells d elements (h ⊳ token a) 0 blank refl none_yet))
 tells (by.atom-literal d) g h x so = as-other (wider (λ k o. sort.a-literal o) (tells d tt h 0 blank))
-tells (by.fn-expr {p = p} {r = r} a d) g h x so = as-other (fn-told r ranged.Nowhere (shape d (start_of p) blank) none_yet (tells d tt (h ⊳ token a) (start_of p) blank))
-tells (by.closure-expr {p = p} {q = q} d) g h x so = as-other (fn-told q ranged.Nowhere (shape d (start_of p) blank) none_yet (tells d tt h (start_of p) blank))
-tells (by.do-expr {p = p} {r = r} a d) g h x so = as-other (fn-told r ranged.Nowhere (over node.Do (start_of p) r (shape d 0 blank)) none_yet (plain sort.do-function refl (tells d tt (h ⊳ token a) 0 blank)))
+tells (by.fn-expr {p = p} {r = r} a d) g h x so = as-other (fn-told r None (shape d (start_of p) blank) none_yet (tells d tt (h ⊳ token a) (start_of p) blank))
+tells (by.closure-expr {p = p} {q = q} d) g h x so = as-other (fn-told q None (shape d (start_of p) blank) none_yet (tells d tt h (start_of p) blank))
+tells (by.do-expr {p = p} {r = r} a d) g h x so = as-other (fn-told r None (over node.Do (start_of p) r (shape d 0 blank)) none_yet (plain sort.do-function refl (tells d tt (h ⊳ token a) 0 blank)))
 tells (by.if-expr a d e f) g h x so = as-other (signed (there (shape f 0 blank).row) false sort.if-expr refl (tells d tt (h ⊳ token a) 0 blank ▹ (tells e tt (h ⊳ token a ⊳ takes d) 0 blank ▹ tells f tt (h ⊳ token a ⊳ takes d ⊳ takes e) 0 blank)))
 tells (by.match-expr a d b e) g h x so = as-other (rowed sort.match-expr (short e tt 0 (only (shape d 0 blank).row) (h ⊳ token a ⊳ takes d ⊳ token b)) refl (tells e tt (h ⊳ token a ⊳ takes d ⊳ token b) 0 (only (shape d 0 blank).row) (empty-behind (tells d tt (h ⊳ token a) 0 blank) none_yet)))
 tells (by.loop-expr a d) g h x so = as-other (plain sort.loop refl (tells d tt (h ⊳ token a) 0 blank))

@@ -2,24 +2,17 @@
 #![tactic(auto)]
 
 use answer::answer;
-
-// The numbers of the open files of a program: the standard input and output.
-const STDIN_FILENO: i32 = 0;
-
-const STDOUT_FILENO: i32 = 1;
-
-fn print(out: &[u8; 262144], end: usize) {
-    let bytes: &[u8] = out;
-    if end <= bytes.len() {
-        io::write_all(STDOUT_FILENO, &bytes[..end]);
-    }
-}
+use listing::LENT_OUT;
+use std::io;
+use std::io::Write;
 
 // One byte more than the largest bundle that has an answer of its own, so that a larger one is seen to be.
-fn main() {
-    let mut bundle = [0u8; 29893];
-    let n = io::read_full(STDIN_FILENO, &mut bundle);
-    let mut out = [0u8; 262144];
+const ROOM: usize = 29893;
+
+fn main(rt: HostRuntime) -> io::Result<()> {
+    let mut bundle = [0u8; ROOM];
+    let n = pieces::fill(&mut rt.reader(), &mut bundle);
+    let mut out = [0u8; LENT_OUT];
     let end = answer(&bundle[..n], &mut out);
-    print(&out, end);
+    io::writer(&rt).write_all(out.get(..end).unwrap_or_default())
 }

@@ -2,20 +2,18 @@
 -- Assumes nothing.
 use mathlib.Core.Path.{◌≡◌, refl, sym, ap, ◌∙◌}
 use mathlib.Core.List.{List, [], ◌∷◌, ◌++◌, map, append-nil}
-use Prim.Native.Nat.{ℕ, suc, ◌+◌, ◌-◌, ◌*◌, ◌^◌, ◌<◌, ◌≤◌}
+use Prim.Native.Nat.{ℕ, ◌+◌, ◌*◌, ◌^◌, ◌<◌, ◌≤◌}
 use native.Mathlib.Numerals.{add-one}
-use native.Mathlib.Omega.{arith}
 use lib.ListN.{length, get_or, take, drop, drop_of_length-le}
-use lib.Seq.{drop-cons, take-nil}
+use lib.Seq.{drop-cons}
 use borrow.Author.Tests.{eq-eqb, ne_eqb}
 use Rattle.kinds.specs.Spelling.{bytes}
 use Rattle.cursor.specs.declared.Label.{Label}
 use Rattle.cursor.specs.Layout.{CLASS, FOUND, ERROR_START, ERROR_END, KINDS_FROM, KINDS_COUNT}
-use Rattle.listing.specs.declared.names.Word.{Word}
-use Rattle.listing.specs.declared.names.Word.TheVariants.{At, Nothing}
-use Rattle.listing.specs.Page.{Page, emits}
+use Rattle.listing.specs.declared.page.Page.{Page}
+use Rattle.listing.specs.Page.{emits}
 use Rattle.listing.specs.Decimal.{decimal, integer}
-use Rattle.listing.specs.Names.{name_from, record_name, detail_name, word_of}
+use Rattle.listing.specs.Names.{name_from, record_name, detail_name}
 use Rattle.listing.specs.Lines.{fields, detail, node_line, found, error_word, error_line, first_line, refusal_line}
 use Rattle.listing.proofs.Pages.{emits-append, and_then}
 use Rattle.listing.proofs.Written.{told, field, also_fields}
@@ -26,17 +24,14 @@ module _ (p : Page) (l : Label) where
   unfolding detail
   detail-int h e f = rw (eq-eqb l.kind 3 h) (field p (integer (l.one + 2 ^ 32 * l.two)) e f)
 
-  module _ (w : Word) (n : l.kind ≡ 3 → ⊥) (e : word_of w ≡ detail_name l.kind l.one) where
-    other : word_of w ≡ detail l
+  module _ (n : l.kind ≡ 3 → ⊥) where
+    pub detail-named : (place : ℕ) {q : Page} → name_from place ∷ [] ≡ detail_name l.kind l.one → q ≡ emits (fields (name_from place ∷ [])) p → q ≡ emits (fields (detail l)) p
     unfolding detail
-    other = rw (ne_eqb l.kind 3 n) e
+    detail-named place e f = rw (ne_eqb l.kind 3 n, ← e) f
 
-    pub detail-named : {q : Page} {place : ℕ} → w ≡ At place → q ≡ emits (fields (name_from place ∷ [])) p → q ≡ emits (fields (detail l)) p
-    detail-named h f = rw (← other, h) f
-
-    pub detail-nothing : w ≡ Nothing → p ≡ emits (fields (detail l)) p
-    unfolding fields emits
-    detail-nothing h = rw (← other, h) refl
+    pub detail-nothing : [] ≡ detail_name l.kind l.one → p ≡ emits (fields (detail l)) p
+    unfolding detail fields emits
+    detail-nothing e = rw (ne_eqb l.kind 3 n, ← e) refl
 
 pub node-line :
     (p : Page) (level : ℕ) (l : Label) (place : ℕ) {p1 p2 p3 p4 p5 p6 : Page} → name_from place ≡ record_name l.kind →
@@ -46,24 +41,16 @@ unfolding node_line
 node-line p level l place e e1 e2 e3 e4 e5 e6 =
     and_then (decimal level) _ p e1 (and_then _ (10 ∷ []) _ (also_fields (record_name l.kind ∷ []) _ _ (rw e at e2) (also_fields (decimal l.start ∷ []) _ _ e3 (also_fields (decimal l.end ∷ []) (detail l) _ e4 e5))) e6)
 
-take_on : (xs : List ℕ) (at n : ℕ) → at < length xs → take (suc n) (drop at xs) ≡ get_or xs at 0 ∷ take n (drop (at + 1) xs)
-take_on xs at n h = rw (drop-cons xs at 0 h, add-one at)
+-- what is left of the expected kinds: one more, and none
+module _ (ks : List ℕ) (n : ℕ) (p : Page) where
+  pub kinds-on : (k : ℕ) {q : Page} → (n < length ks) × (k ≡ get_or ks n k) → q ≡ emits (fields (decimal k ∷ [])) p → emits (fields (map decimal (drop n ks))) p ≡ emits (fields (map decimal (drop (n + 1) ks))) q
+  kinds-on k h e =
+      let split : drop n ks ≡ k ∷ drop (n + 1) ks = drop-cons ks n k h.0 ∙ rw (← h.1, add-one) refl in
+      rw split (sym (also_fields (decimal k ∷ []) (map decimal (drop (n + 1) ks)) p e refl))
 
--- what is left of the expected kinds: one more, none in the buffer, none to write
-module _ (xs : List ℕ) (at left : ℕ) (p : Page) where
-  pub kinds-on : {q : Page} → 0 < left → at < length xs → q ≡ emits (fields (decimal (get_or xs at 0) ∷ [])) p → emits (fields (map decimal (take left (drop at xs)))) p ≡ emits (fields (map decimal (take (left - 1) (drop (at + 1) xs)))) q
-  kinds-on h g e =
-      let k : left ≡ suc (left - 1) = omega arith in
-      let split : take left (drop at xs) ≡ get_or xs at 0 ∷ take (left - 1) (drop (at + 1) xs) = ap (λ n. take n (drop at xs)) k ∙ take_on xs at (left - 1) g in
-      rw split (sym (also_fields (decimal (get_or xs at 0) ∷ []) (map decimal (take (left - 1) (drop (at + 1) xs))) p e refl))
-
-  pub kinds-past : length xs ≤ at → emits (fields (map decimal (take left (drop at xs)))) p ≡ p
+  pub kinds-end : length ks ≤ n → emits (fields (map decimal (drop n ks))) p ≡ p
   unfolding fields emits
-  kinds-past h = rw (drop_of_length-le xs h, take-nil)
-
-  pub kinds-end : left ≤ 0 → emits (fields (map decimal (take left (drop at xs)))) p ≡ p
-  unfolding fields emits
-  kinds-end h = let e : left ≡ 0 = omega arith in rw e
+  kinds-end h = rw (drop_of_length-le ks h)
 
 module _ (p : Page) (class what : ℕ) where
   pub found-int : {q r : Page} → class ≡ 1 → q ≡ emits (32 ∷ bytes "int") p → r ≡ emits (fields (decimal what ∷ [])) q → r ≡ emits (fields (found class what)) p

@@ -1,12 +1,13 @@
 -- A name, one byte at a time, and that each place leads to the name that it is kept for: computed tests over the tables.
 -- Assumes nothing.
-use Prim.Native.Nat.{ℕ, ◌+◌, ◌<◌, ◌≤◌}
+use Prim.Native.Nat.{ℕ, ◌+◌, ◌-◌, ◌<◌, ◌≤◌}
 use native.Mathlib.Decide.{dec_lt}
 use native.Mathlib.Numerals.{add-one}
 use native.Mathlib.Omega.{arith}
 use mathlib.Core.Bool.{Bool, true, false}
 use mathlib.Core.List.{List, [], ◌∷◌}
-use mathlib.Core.Path.{◌≡◌, refl, sym, ◌∙◌}
+use mathlib.Core.Path.{◌≡◌, refl, sym, ap, ◌∙◌}
+use mathlib.Core.Logic.{◌⊎◌, inl, inr}
 use lib.Dec.{T}
 use lib.ListN.{length, get_or, drop_of_length-le, get_or-eq_default, get_or-append}
 use lib.Seq.{drop-cons, get_or-append-add}
@@ -14,7 +15,7 @@ use borrow.Author.Tests.{eq-eqb, ne_eqb}
 use Rattle.kinds.specs.Spelling.{equal}
 use Rattle.kinds.specs.Listing.{listing_name, name_place, name_bytes}
 use Rattle.kinds.specs.TypeWords.{type_names, type_name_place}
-use Rattle.kinds.proofs.Every.{every, at, entry}
+use Rattle.kinds.proofs.Every.{every, at}
 use Rattle.kinds.proofs.Parts.{equal-same}
 use Rattle.kinds.proofs.Rest.{past}
 use Rattle.listing.specs.Names.{record_names, record_name, unary_name, binary_name, type_name, detail_name, other_bytes, letters, name_from}
@@ -39,17 +40,18 @@ name-end place {b} e n = elim (dec_lt place (length letters)) [
   | no h ↦ rw (drop_of_length-le letters {i = place} (omega arith))
 ]
 
+pub name-past : (place : ℕ) → 410 ≤ place → name_from place ≡ []
+unfolding name_from
+name-past place h = rw (drop_of_length-le letters {i = place} (rw letters-length h))
+
 -- a byte of the kinds' names, one of the others, and none
 pub letter-kind : (place : ℕ) → place < 120 → get_or name_bytes place 32 ≡ get_or letters place 32
 unfolding letters name_bytes
 letter-kind place h = sym (get_or-append name_bytes other_bytes 32 place h)
 
-pub letter-other : (own : ℕ) → own < 290 → get_or other_bytes own 0 ≡ get_or letters (120 + own) 32
+pub letter-other : (place : ℕ) → 120 ≤ place → get_or other_bytes (place - 120) 32 ≡ get_or letters place 32
 unfolding letters name_bytes other_bytes
-letter-other own h = entry 290 other_bytes (λ k. get_or other_bytes k 32) tt own h ∙ sym (get_or-append-add name_bytes other_bytes own 32)
-
-pub letter-none : (place : ℕ) → 410 ≤ place → 32 ≡ get_or letters place 32
-letter-none place h = sym (get_or-eq_default letters 32 (rw letters-length h))
+letter-other place h = let e : 120 + (place - 120) ≡ place = omega arith in sym (get_or-append-add name_bytes other_bytes (place - 120) 32) ∙ ap (λ k. get_or letters k 32) e
 
 is_true : (b : Bool) → T b → b ≡ true
 is_true true t = refl
@@ -117,13 +119,12 @@ record_places =
     ∷ 393
     ∷ []
 
-pub record-named : (k : ℕ) → k < 53 → name_from (get_or record_places k 0) ≡ record_name k
+pub record-named : (k : ℕ) → name_from (get_or record_places k 0) ≡ record_name k
 unfolding name_from letters name_bytes other_bytes record_name equal
-record-named k h = same_name 53 (λ k. name_from (get_or record_places k 0)) record_name tt k h
-
-pub record-past : (k : ℕ) → 53 ≤ k → name_from 0 ≡ record_name k
-unfolding name_from letters name_bytes other_bytes record_name
-record-past k h = rw (get_or-eq_default record_names "" h)
+record-named k = elim (dec_lt k 53) [
+  | yes h ↦ same_name 53 (λ k. name_from (get_or record_places k 0)) record_name tt k h
+  | no h ↦ rw (get_or-eq_default record_places 0 {n = k} (omega arith), get_or-eq_default record_names "" {n = k} (omega arith))
+]
 
 pub binary-named : (k : ℕ) → name_from (name_place k) ≡ binary_name k
 unfolding name_from letters name_bytes other_bytes name_place listing_name binary_name equal
@@ -158,13 +159,10 @@ module _ (k one place : ℕ) where
   unfolding detail_name
   detail-unary h e = rw (h, e)
 
-  pub detail-binary : k ≡ 15 → place ≡ name_place one → name_from place ∷ [] ≡ detail_name k one
+  pub detail-operator : (k ≡ 15) ⊎ (k ≡ 30) → place ≡ name_place one → name_from place ∷ [] ≡ detail_name k one
   unfolding detail_name
-  detail-binary h e = rw (h, e, binary-named one)
-
-  pub detail-assign : k ≡ 30 → place ≡ name_place one → name_from place ∷ [] ≡ detail_name k one
-  unfolding detail_name
-  detail-assign h e = rw (h, e, binary-named one)
+  detail-operator (inl h) e = rw (h, e, binary-named one)
+  detail-operator (inr h) e = rw (h, e, binary-named one)
 
   pub detail-type : k ≡ 16 → place ≡ type_name_place one → name_from place ∷ [] ≡ detail_name k one
   unfolding detail_name

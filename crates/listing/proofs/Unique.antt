@@ -4,15 +4,12 @@
 use Prim.Native.Nat.{ℕ}
 use mathlib.Core.List.{List}
 use mathlib.Core.Path.{◌≡◌, refl, sym, ap, ◌∙◌}
+use Rattle.std.specs.Prelude.{Option, Some, None}
 use Rattle.kinds.specs.Listing.{name_bytes}
 use Rattle.listing.specs.declared.bundle.Decoded.{Decoded}
-use Rattle.listing.specs.declared.bundle.Decoded.TheVariants as decoded
-use Rattle.listing.specs.declared.list.Listed.TheVariants as listed
-use Rattle.listing.specs.declared.page.Pen.{Pen}
 use Rattle.listing.specs.Answers.{as_listed, wrote}
 use Rattle.listing.specs.Bundle.{as_decoded}
 use Rattle.listing.specs.Names.{letters, other_bytes, name_from, record_name, word_of}
-use Rattle.listing.specs.Page.{Page, page}
 use Rattle.listing.proofs.bundle.decode.Reads as decode
 use Rattle.listing.proofs.lines.error_line.Reads as error-line
 use Rattle.listing.proofs.lines.first_line.Reads as first-line
@@ -24,10 +21,10 @@ use Rattle.listing.proofs.list.refusal.Reads as refusal
 use Rattle.listing.proofs.names.detail_place.Reads as detail-place
 use Rattle.listing.proofs.names.put_name.Reads as put-name
 use Rattle.listing.proofs.names.record_place.Reads as record-place
-use Rattle.listing.proofs.page.put_byte.Reads as put_byte
-use Rattle.listing.proofs.page.put_bytes.Reads as put-bytes
-use Rattle.listing.proofs.page.put_integer.Reads as put-integer
-use Rattle.listing.proofs.page.put_number.Reads as put-number
+use Rattle.listing.proofs.page.Page.put_byte.Reads as put_byte
+use Rattle.listing.proofs.page.Page.put_bytes.Reads as put-bytes
+use Rattle.listing.proofs.page.Page.put_integer.Reads as put-integer
+use Rattle.listing.proofs.page.Page.put_number.Reads as put-number
 use Rattle.listing.proofs.walk.node_lines.Reads as node-lines
 use Rattle.listing.proofs.walk.within.Reads as within
 
@@ -39,28 +36,28 @@ Telling {R} {B} f = (r s : R) (a b : B) → f r a ≡ f s b → (r ≡ s) × (a 
 both : {R B O : Type 0} {f : R → B → O} → Telling f → (r s : R) (a b : B) {o : O} → f r a ≡ o → f s b ≡ o → (r ≡ s) × (a ≡ b)
 both telling r s a b p q = telling r s a b (p ∙ sym q)
 
-pages : Telling (λ (r : Pen) (a : List ℕ). page a r)
-pages r s a b e = (ap (λ (p : Page). p.pen) e, ap (λ (p : Page). p.out) e)
-
 listeds : Telling as_listed
-listeds (listed.Written n) (listed.Written m) a b e = (cc, cc)
-listeds (listed.Written n) listed.NoRoom a b e = (cc, cc)
-listeds listed.NoRoom (listed.Written m) a b e = (cc, cc)
-listeds listed.NoRoom listed.NoRoom a b e = (refl, cc)
+listeds (Some n) (Some m) a b e = (cc, cc)
+listeds (Some n) None a b e = (cc, cc)
+listeds None (Some m) a b e = (cc, cc)
+listeds None None a b e = (refl, cc)
 
 writtens : Telling wrote
 writtens r s a b e = (cc, cc)
 
-decodeds : Telling (λ (r : Decoded) (a : List ℕ × List ℕ). as_decoded r a.0 a.1)
-decodeds (decoded.Sheet n m) (decoded.Sheet k l) (a, c) (b, d) e = (cc, cc)
-decodeds (decoded.Sheet n m) decoded.Refused (a, c) (b, d) e = (cc, cc)
-decodeds decoded.Refused (decoded.Sheet k l) (a, c) (b, d) e = (cc, cc)
-decodeds decoded.Refused decoded.Refused (a, c) (b, d) e = (refl, cc)
+decodeds : Telling (λ (r : Option Decoded) (a : List ℕ × List ℕ). as_decoded r a.0 a.1)
+decodeds (Some d) (Some f) (a, c) (b, g) e =
+    let n : d.text ≡ f.text = cc in
+    let m : d.tokens ≡ f.tokens = cc in
+    (λ i. Some (record { text = n i; tokens = m i }), cc)
+decodeds (Some d) None (a, c) (b, g) e = (cc, cc)
+decodeds None (Some f) (a, c) (b, g) e = (cc, cc)
+decodeds None None (a, c) (b, g) e = (refl, cc)
 
 -- bundle in, listing out
 pub one-decode : (κs : _) (args : _) (r s : _) (x y : _) → decode.Post κs args r x → decode.Post κs args s y → (r ≡ s) × (x.1.0.now ≡ y.1.0.now) × (x.1.1.0.now ≡ y.1.1.0.now)
 one-decode κs args r s x y p q =
-    let z = both decodeds r s (x.1.0.now, x.1.1.0.now) (y.1.0.now, y.1.1.0.now) p q in
+    let z = both decodeds r s (x.1.0.now, x.1.1.0.now) (y.1.0.now, y.1.1.0.now) p.1 q.1 in
     (z.0, ap (λ (h : List ℕ × List ℕ). h.0) z.1, ap (λ (h : List ℕ × List ℕ). h.1) z.1)
 
 pub one-listing : (κs : _) (args : _) (r s : _) (x y : _) → listing.Post κs args r x → listing.Post κs args s y → (r ≡ s) × (x.1.1.1.0.now ≡ y.1.1.1.0.now)
@@ -72,33 +69,33 @@ one-refusal κs args r s x y p q = both listeds r s x.0.now y.0.now p q
 pub one-lent-listing : (κs : _) (args : _) (r s : _) (x y : _) → lent-listing.Post κs args r x → lent-listing.Post κs args s y → (r ≡ s) × (x.1.1.1.0.now ≡ y.1.1.1.0.now)
 one-lent-listing κs args r s x y p q = both writtens r s x.1.1.1.0.now y.1.1.1.0.now p q
 
--- the writers: where the pen stands, and what the buffer holds
-pub one-put-byte : (κs : _) (args : _) (r s : _) (x y : _) → put_byte.Post κs args r x → put_byte.Post κs args s y → (r ≡ s) × (x.0.now ≡ y.0.now)
-one-put-byte κs args r s x y p q = both pages r s x.0.now y.0.now p q
+-- the writers: the page, with what its buffer holds and where its next byte goes
+pub one-put-byte : (κs : _) (args : _) (r s : _) (x y : _) → put_byte.Post κs args r x → put_byte.Post κs args s y → x.0.now ≡ y.0.now
+one-put-byte κs args r s x y p q = p ∙ sym q
 
-pub one-put-bytes : (κs : _) (args : _) (r s : _) (x y : _) → put-bytes.Post κs args r x → put-bytes.Post κs args s y → (r ≡ s) × (x.0.now ≡ y.0.now)
-one-put-bytes κs args r s x y p q = both pages r s x.0.now y.0.now p q
+pub one-put-bytes : (κs : _) (args : _) (r s : _) (x y : _) → put-bytes.Post κs args r x → put-bytes.Post κs args s y → x.0.now ≡ y.0.now
+one-put-bytes κs args r s x y p q = p ∙ sym q
 
-pub one-put-number : (κs : _) (args : _) (r s : _) (x y : _) → put-number.Post κs args r x → put-number.Post κs args s y → (r ≡ s) × (x.0.now ≡ y.0.now)
-one-put-number κs args r s x y p q = both pages r s x.0.now y.0.now p q
+pub one-put-number : (κs : _) (args : _) (r s : _) (x y : _) → put-number.Post κs args r x → put-number.Post κs args s y → x.0.now ≡ y.0.now
+one-put-number κs args r s x y p q = p ∙ sym q
 
-pub one-put-integer : (κs : _) (args : _) (r s : _) (x y : _) → put-integer.Post κs args r x → put-integer.Post κs args s y → (r ≡ s) × (x.0.now ≡ y.0.now)
-one-put-integer κs args r s x y p q = both pages r s x.0.now y.0.now p q
+pub one-put-integer : (κs : _) (args : _) (r s : _) (x y : _) → put-integer.Post κs args r x → put-integer.Post κs args s y → x.0.now ≡ y.0.now
+one-put-integer κs args r s x y p q = p ∙ sym q
 
-pub one-put-name : (κs : _) (args : _) (r s : _) (x y : _) → put-name.Post κs args r x → put-name.Post κs args s y → (r ≡ s) × (x.0.now ≡ y.0.now)
-one-put-name κs args r s x y p q = both pages r s x.0.now y.0.now p q
+pub one-put-name : (κs : _) (args : _) (r s : _) (x y : _) → put-name.Post κs args r x → put-name.Post κs args s y → x.0.now ≡ y.0.now
+one-put-name κs args r s x y p q = p ∙ sym q
 
-pub one-first-line : (κs : _) (args : _) (r s : _) (x y : _) → first-line.Post κs args r x → first-line.Post κs args s y → (r ≡ s) × (x.0.now ≡ y.0.now)
-one-first-line κs args r s x y p q = both pages r s x.0.now y.0.now p q
+pub one-first-line : (κs : _) (args : _) (r s : _) (x y : _) → first-line.Post κs args r x → first-line.Post κs args s y → x.0.now ≡ y.0.now
+one-first-line κs args r s x y p q = p ∙ sym q
 
-pub one-node-line : (κs : _) (args : _) (r s : _) (x y : _) → node-line.Post κs args r x → node-line.Post κs args s y → (r ≡ s) × (x.0.now ≡ y.0.now)
-one-node-line κs args r s x y p q = both pages r s x.0.now y.0.now p q
+pub one-node-line : (κs : _) (args : _) (r s : _) (x y : _) → node-line.Post κs args r x → node-line.Post κs args s y → x.0.now ≡ y.0.now
+one-node-line κs args r s x y p q = p ∙ sym q
 
-pub one-error-line : (κs : _) (args : _) (r s : _) (x y : _) → error-line.Post κs args r x → error-line.Post κs args s y → (r ≡ s) × (x.1.1.0.now ≡ y.1.1.0.now)
-one-error-line κs args r s x y p q = both pages r s x.1.1.0.now y.1.1.0.now p q
+pub one-error-line : (κs : _) (args : _) (r s : _) (x y : _) → error-line.Post κs args r x → error-line.Post κs args s y → x.1.1.0.now ≡ y.1.1.0.now
+one-error-line κs args r s x y p q = p ∙ sym q
 
-pub one-node-lines : (κs : _) (args : _) (r s : _) (x y : _) → node-lines.Post κs args r x → node-lines.Post κs args s y → (r ≡ s) × (x.1.0.now ≡ y.1.0.now)
-one-node-lines κs args r s x y p q = both pages r s x.1.0.now y.1.0.now p q
+pub one-node-lines : (κs : _) (args : _) (r s : _) (x y : _) → node-lines.Post κs args r x → node-lines.Post κs args s y → x.1.0.now ≡ y.1.0.now
+one-node-lines κs args r s x y p q = p ∙ sym q
 
 -- a contract that is an equation with the answer
 pub one-word-at : (κs : _) (args : _) (r s : _) (x y : _) → word_at.Post κs args r x → word_at.Post κs args s y → r ≡ s

@@ -1,6 +1,7 @@
 -- The first nodes of a row of trees, as the walk prints them; and that how far the reading of the links goes does not matter beyond that.
 -- Assumes nothing.
 use mathlib.Core.Path.{◌≡◌, refl, sym, ap, ◌∙◌}
+use mathlib.Core.Logic.{◌⊎◌, inl, inr}
 use mathlib.Core.List.{List, [], ◌∷◌, ◌++◌, append_assoc, append-nil}
 use Prim.Native.Nat.{ℕ, zero, suc, ◌+◌, ◌-◌, ◌*◌, ◌/◌, ◌<◌, ◌≤◌, min}
 use native.Mathlib.Omega.{arith}
@@ -8,7 +9,8 @@ use lib.ListN.{length, get_or, take, length-take, length-append}
 use Rattle.cursor.specs.declared.Label.{Label}
 use Rattle.cursor.specs.Layout.{FIRST, NEXT}
 use Rattle.cursor.specs.Tree.{word, label, trees, meaning}
-use Rattle.listing.specs.Page.{Page, emits}
+use Rattle.listing.specs.declared.page.Page.{Page}
+use Rattle.listing.specs.Page.{emits}
 use Rattle.listing.specs.Lines.{node_line, error_line}
 use Rattle.listing.specs.Listing.{rows, row_lines, rows_from, node_lines, errors_from, error_lines}
 use Rattle.listing.proofs.Pages.{and_then}
@@ -56,6 +58,10 @@ module _ (xs : List ℕ) (level : ℕ) where
   unfolding rows_from rows trees
   rows_end link zero e = refl
   rows_end link (suc left) e = rw e
+
+  pub rows_over : (link left : ℕ) → (left ≡ 0) ⊎ (¬ (left ≡ 0) × (link ≡ 0)) → rows_from xs link level left ≡ []
+  rows_over link left (inl e) = rows_none link left e
+  rows_over link left (inr e) = rows_end link left e.1
 
   -- a node, those below it, and those after it
   pub rows_on : (i m : ℕ) → rows_from xs (suc i) level (suc m) ≡ (level, label xs i) ∷ (rows_from xs (word xs i FIRST) (level + 1) m ++ rows_from xs (word xs i NEXT) level (m - length (rows_from xs (word xs i FIRST) (level + 1) m)))

@@ -3,7 +3,8 @@
 use mathlib.Core.Path.{◌≡◌, refl}
 use mathlib.Core.List.{List, [], ◌∷◌, ◌++◌, append_assoc, append-nil}
 use Prim.Native.Nat.{ℕ, ◌+◌, ◌-◌, ◌/◌, ◌%◌, ◌^◌, ◌<◌, ◌≤◌}
-use Rattle.listing.specs.Page.{Page, emits}
+use Rattle.listing.specs.declared.page.Page.{Page}
+use Rattle.listing.specs.Page.{emits}
 use Rattle.listing.specs.Decimal.{decimal, integer}
 use Rattle.listing.specs.Names.{name_from}
 use Rattle.listing.specs.Lines.{fields}

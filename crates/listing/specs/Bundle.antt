@@ -1,7 +1,6 @@
 -- A bundle is a text and a token list, each after its count. Numbers are little-endian.
-use Rattle.std.specs.Prelude.{ℕ, zero, suc, ◌+◌, ◌-◌, ◌*◌, ◌/◌, ◌%◌, ◌^◌, ◌<◌, ◌≤◌, List, [], ◌∷◌, ◌++◌, Bool, true, false, ◌≡◌, leb, eqb, length, get_or, take, drop}
+use Rattle.std.specs.Prelude.{ℕ, zero, suc, ◌+◌, ◌-◌, ◌*◌, ◌/◌, ◌%◌, ◌^◌, ◌<◌, ◌≤◌, List, [], ◌∷◌, ◌++◌, Option, Some, None, Bool, true, false, ◌≡◌, leb, eqb, length, get_or, take, drop}
 use Rattle.listing.specs.declared.bundle.Decoded.{Decoded}
-use Rattle.listing.specs.declared.bundle.Decoded.TheVariants as decoded
 
 -- a number in four bytes
 abbrev pub four_bytes : ℕ → List ℕ
@@ -74,9 +73,9 @@ pub data Outcome : Type 0 where
   sheet : ℕ → ℕ → List ℕ → List ℕ → Outcome
   refused : List ℕ → List ℕ → Outcome
 
-abbrev pub as_decoded : Decoded → List ℕ → List ℕ → Outcome
-as_decoded (decoded.Sheet n m) text tokens = sheet n m text tokens
-as_decoded decoded.Refused text tokens = refused text tokens
+abbrev pub as_decoded : Option Decoded → List ℕ → List ℕ → Outcome
+as_decoded (Some d) text tokens = sheet d.text d.tokens text tokens
+as_decoded None text tokens = refused text tokens
 
 -- n bytes from a place on, at the start of a buffer
 unfoldable pub copied : List ℕ → ℕ → ℕ → List ℕ → List ℕ

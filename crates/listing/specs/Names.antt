@@ -1,13 +1,11 @@
 -- How the lister spells record kinds, operators and checked types: the Rust's cases, docs/LAYOUT.md's column 'listed as'.
-use Rattle.std.specs.Prelude.{ℕ, List, [], ◌∷◌, ◌++◌, eqb, get_or, drop}
+use Rattle.std.specs.Prelude.{ℕ, List, [], ◌∷◌, ◌++◌, Option, Some, None, eqb, get_or, drop}
 use Prim.Native.String.{String}
 use Rattle.kinds.specs.Number as kind
 use Rattle.kinds.specs.Spelling.{bytes, whether}
 use Rattle.kinds.specs.Listing.{listing_name, spaced, name_bytes, up_to_space}
 use Rattle.kinds.specs.TypeWords.{type_names}
 use Rattle.cursor.specs.Node as node
-use Rattle.listing.specs.declared.names.Word.{Word}
-use Rattle.listing.specs.declared.names.Word.TheVariants.{At, Nothing}
 
 -- the names of the record kinds, from 0, which is no record, to 52
 abbrev pub record_names : List String
@@ -144,6 +142,6 @@ letters = name_bytes ++ other_bytes
 unfoldable pub name_from : ℕ → List ℕ
 name_from place = up_to_space (drop place letters)
 
-abbrev pub word_of : Word → List (List ℕ)
-word_of (At place) = name_from place ∷ []
-word_of Nothing = []
+abbrev pub word_of : Option ℕ → List (List ℕ)
+word_of (Some place) = name_from place ∷ []
+word_of None = []

@@ -1,19 +1,12 @@
--- Bytes written one after the other: what the buffer holds, and where the pen stands.
+-- Bytes written one after the other: what the buffer holds, and where the next one goes.
 use Rattle.std.specs.Prelude.{ℕ, ◌+◌, List, [], ◌∷◌, true, false, ltb}
 use Rattle.cursor.specs.Buffer.{put}
-use Rattle.listing.specs.declared.page.Pen.{Pen}
+use Rattle.listing.specs.declared.page.Page.{Page}
 
-pub record Page : Type 0 where
-  pub out : List ℕ
-  pub pen : Pen
-
-abbrev pub page : List ℕ → Pen → Page
-page out pen = record { out = out; pen = pen }
-
--- one byte: below the room it goes to the pen's place, where the buffer has one, and the pen moves on
+-- one byte: below the room it goes to its place, where the buffer has one, and the next one goes behind it
 unfoldable pub emit : ℕ → Page → Page
-emit b p = elim (ltb p.pen.at p.pen.room) as (λ _. Page) [
-  | true ↦ page (put p.out p.pen.at b) (record { at = p.pen.at + 1; room = p.pen.room })
+emit b p = elim (ltb p.at p.room) as (λ _. Page) [
+  | true ↦ record p { out = record p.out { now = put p.out.now p.at b }; at = p.at + 1 }
   | false ↦ p
 ]
 

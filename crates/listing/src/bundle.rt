@@ -1,6 +1,6 @@
 // A bundle: the text and the tokens of a sheet, each after its count.
-ghost use Rattle.std.specs.Prelude.{◌≡◌, ◌+◌, ◌*◌, ◌≤◌, ◌<◌, length, get_or};
-ghost use Rattle.listing.specs.Bundle.{little, copied, token_words, as_decoded, decoded_into};
+ghost use Rattle.std.specs.Prelude.{◌≡◌, ◌+◌, ◌*◌, ◌≤◌, ◌<◌, IfSome, length, get_or};
+ghost use Rattle.listing.specs.Bundle.{little, token_words, as_decoded, decoded_into};
 
 // The bytes of a count, of both, and of a token.
 const COUNT_BYTES: usize = 4;
@@ -9,17 +9,11 @@ const BOTH_COUNTS: usize = 8;
 
 const TOKEN_BYTES: usize = 9;
 
-// The bytes of the text and the tokens that the buffers now hold; or refusal 12.
+// How many bytes of text and how many tokens the buffers now hold.
 #[derive(Clone, Copy)]
-pub enum Decoded {
-    Sheet(usize, usize),
-    Refused,
-}
-
-fn wide(b: u8) -> u32
-    ensures { result ≡ b }
-{
-    b as u32
+pub struct Decoded {
+    pub text: usize,
+    pub tokens: usize,
 }
 
 // The number that four bytes spell, the lowest first.
@@ -27,64 +21,42 @@ fn little(bytes: &[u8], at: usize) -> u32
     requires { at + 4 ≤ length bytes.now }
     ensures { result ≡ little bytes.now at }
 {
-    wide(bytes[at])
-        + 0x100 * wide(bytes[at + 1])
-        + 0x1_0000 * wide(bytes[at + 2])
-        + 0x100_0000 * wide(bytes[at + 3])
+    u32::from_le_bytes([bytes[at], bytes[at + 1], bytes[at + 2], bytes[at + 3]])
 }
 
-// The text, from the bundle's fifth byte on.
-fn copy_text(bundle: &[u8], text: &mut [u8], n: usize)
-    requires { (4 + n ≤ length bundle.now) × (n ≤ length text.old) }
-    ensures { text.new ≡ copied bundle.now 4 n text.old }
-{
-    let mut i = 0;
-    while i < n {
-        text[i] = bundle[COUNT_BYTES + i];
-        i += 1;
-    }
-}
-
-// The tokens, from a place of the bundle on: a byte for the kind, four for the start, four for the end.
+// The tokens, from a place of the bundle on: a byte for the kind, four for the start, four for the end. By index, since nothing is known of a
+// slice once an adapter of `chunks_exact_mut` has written it.
 fn copy_tokens(bundle: &[u8], tokens: &mut [u32], from: usize, m: usize)
     requires { (from + 9 * m ≤ length bundle.now) × (3 * m ≤ length tokens.old) }
     ensures { tokens.new ≡ token_words bundle.now from m tokens.old }
 {
-    let mut j = 0;
-    let mut at = from;
-    while j < m {
-        tokens[3 * j] = wide(bundle[at]);
+    for j in 0..m {
+        let at = from + TOKEN_BYTES * j;
+        tokens[3 * j] = u32::from(bundle[at]);
         tokens[3 * j + 1] = little(bundle, at + 1);
         tokens[3 * j + 2] = little(bundle, at + 5);
-        at += TOKEN_BYTES;
-        j += 1;
     }
 }
 
 // Decodes a bundle into the buffers for its text and its tokens. A bundle cut short, with bytes left over or larger than the buffers
 // is refused and leaves them as they were.
-pub fn decode(bundle: &[u8], text: &mut [u8], tokens: &mut [u32]) -> Decoded
-    ensures { as_decoded result text.new tokens.new ≡ decoded_into bundle.now text.old tokens.old }
+pub fn decode(bundle: &[u8], text: &mut [u8], tokens: &mut [u32]) -> Option<Decoded>
+    ensures within { IfSome result (λ d. (d.text ≤ length text.old) × (3 * d.tokens ≤ length tokens.old)) }
+    ensures sheet { as_decoded result text.new tokens.new ≡ decoded_into bundle.now text.old tokens.old }
 {
     if bundle.len() < BOTH_COUNTS {
-        return Decoded::Refused;
+        return None;
     }
     let n = little(bundle, 0) as usize;
-    if bundle.len() - BOTH_COUNTS < n {
-        return Decoded::Refused;
-    }
-    if text.len() < n {
-        return Decoded::Refused;
+    if bundle.len() - BOTH_COUNTS < n || text.len() < n {
+        return None;
     }
     let m = little(bundle, COUNT_BYTES + n) as usize;
-    if tokens.len() / 3 < m {
-        return Decoded::Refused;
-    }
     let from = BOTH_COUNTS + n;
-    if bundle.len() != from + TOKEN_BYTES * m {
-        return Decoded::Refused;
+    if tokens.len() / 3 < m || bundle.len() != from + TOKEN_BYTES * m {
+        return None;
     }
-    copy_text(bundle, text, n);
+    text[..n].copy_from_slice(&bundle[COUNT_BYTES..COUNT_BYTES + n]);
     copy_tokens(bundle, tokens, from, m);
-    Decoded::Sheet(n, m)
+    Some(Decoded { text: n, tokens: m })
 }

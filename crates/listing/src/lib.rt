@@ -9,4 +9,6 @@ mod page;
 mod walk;
 
 pub use bundle::{Decoded, decode};
-pub use list::{Counts, Listed, lent_listing, listing, refusal};
+pub use list::{
+    Counts, LENT_ERRORS, LENT_EXPECTED, LENT_NODES, LENT_OUT, lent_listing, listing, refusal,
+};

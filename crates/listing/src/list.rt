@@ -1,13 +1,23 @@
 // The listing of a reading, and of a refusal.
 ghost use Rattle.std.specs.Prelude.{◌≡◌};
-ghost use Rattle.listing.specs.Page.{page, emits};
+ghost use Rattle.listing.specs.Page.{emits};
 ghost use Rattle.listing.specs.Listing.{error_lines, listing_of, refusal_of};
-ghost use Rattle.listing.specs.Answers.{Sized, as_listed, wrote, written};
+ghost use Rattle.listing.specs.Answers.{as_listed, wrote, written};
 
 use crate::lines::{error_line, first_line};
-use crate::page::{Pen, put_byte, put_bytes, put_number};
+use crate::page::Page;
 use crate::walk::{node_lines, within};
 use cursor::records::ERROR_WORDS;
+
+// What the lister lends: the words of 1,024 node records and of 16 error records, 1,024 expected kinds, and bytes enough for any
+// listing of these.
+pub const LENT_NODES: usize = 8192;
+
+pub const LENT_ERRORS: usize = 96;
+
+pub const LENT_EXPECTED: usize = 1024;
+
+pub const LENT_OUT: usize = 262144;
 
 // What a reading reports.
 #[derive(Clone, Copy)]
@@ -17,131 +27,85 @@ pub struct Counts {
     pub errors: u32,
 }
 
-// How many bytes the listing has, or that the buffer is too short for it.
-#[derive(Clone, Copy)]
-pub enum Listed {
-    Written(usize),
-    NoRoom,
-}
-
 // The lines of so many errors, as many as the buffer has.
-fn error_lines(errors: &[u32], expected: &[u8], out: &mut [u8], pen: Pen, count: u32) -> Pen
-    ensures { page out.new result ≡ emits (error_lines errors.now expected.now count) (page out.old pen) }
+fn error_lines(errors: &[u32], expected: &[u8], page: &mut Page, count: u32)
+    ensures { page.new ≡ emits (error_lines errors.now expected.now count) page.old }
 {
-    let end = within(count, errors.len() / ERROR_WORDS);
-    let mut p = pen;
-    let mut i = 0;
-    while i < end {
-        p = error_line(errors, expected, out, p, i);
-        i += 1;
+    for i in 0..within(count, errors.len() / ERROR_WORDS) {
+        error_line(errors, expected, page, i);
     }
-    p
 }
 
-fn lines(
-    nodes: &[u32],
-    errors: &[u32],
-    expected: &[u8],
-    out: &mut [u8],
-    pen: Pen,
-    counts: Counts,
-) -> Pen
-    ensures { page out.new result ≡ emits (listing_of nodes.now errors.now expected.now counts) (page out.old pen) }
+fn lines(nodes: &[u32], errors: &[u32], expected: &[u8], page: &mut Page, counts: Counts)
+    ensures { page.new ≡ emits (listing_of nodes.now errors.now expected.now counts) page.old }
 {
-    let p1 = first_line(out, pen, counts.reads, counts.nodes, counts.errors);
-    let p2 = node_lines(nodes, out, p1, counts.nodes);
-    error_lines(errors, expected, out, p2, counts.errors)
+    first_line(page, counts.reads, counts.nodes, counts.errors);
+    node_lines(nodes, page, counts.nodes);
+    error_lines(errors, expected, page, counts.errors);
 }
 
-// The listing of a reading, written at the start of a buffer. It is measured first, so that a buffer too short for it is left as it was.
+// The listing of a reading, written at the start of a buffer, and how many bytes it has. It is measured first, so that a buffer too short
+// for it is left as it was.
 pub fn listing(
     nodes: &[u32],
     errors: &[u32],
     expected: &[u8],
     out: &mut [u8],
     counts: Counts,
-) -> Listed
+) -> Option<usize>
     ensures { as_listed result out.new ≡ written (listing_of nodes.now errors.now expected.now counts) out.old }
 {
     let room = out.len() + 1;
-    let measured = lines(
-        nodes,
-        errors,
-        expected,
-        &mut out[..0],
-        Pen { at: 0, room },
-        counts,
-    );
-    if out.len() < measured.at {
-        return Listed::NoRoom;
-    }
-    let done = lines(nodes, errors, expected, out, Pen { at: 0, room }, counts);
-    Listed::Written(done.at)
-}
-
-// The same in buffers as long as those that the lister lends, where there is always room.
-fn sized_listing(
-    nodes: &[u32],
-    errors: &[u32],
-    expected: &[u8],
-    out: &mut [u8],
-    r: u32,
-    n: u32,
-    e: u32,
-) -> usize
-    requires { Sized nodes.now errors.now expected.now out.old }
-    ensures { wrote result out.new ≡ written (listing_of nodes.now errors.now expected.now (record { reads = r; nodes = n; errors = e })) out.old }
-{
-    let counts = Counts {
-        reads: r,
-        nodes: n,
-        errors: e,
+    let mut measured = Page {
+        out: &mut [],
+        at: 0,
+        room,
     };
-    let listed = listing(nodes, errors, expected, out, counts);
-    match listed {
-        Listed::Written(len) => len,
-        Listed::NoRoom => 0,
+    lines(nodes, errors, expected, &mut measured, counts);
+    if out.len() < measured.at {
+        return None;
     }
+    let mut page = Page { out, at: 0, room };
+    lines(nodes, errors, expected, &mut page, counts);
+    Some(page.at)
 }
 
-// The same in the very buffers that the lister lends: 1,024 node records, 16 error records, 1,024 expected kinds.
+// The same in the very buffers that the lister lends, where there is always room.
 pub fn lent_listing(
-    nodes: &[u32; 8192],
-    errors: &[u32; 96],
-    expected: &[u8; 1024],
-    out: &mut [u8; 262144],
+    nodes: &[u32; LENT_NODES],
+    errors: &[u32; LENT_ERRORS],
+    expected: &[u8; LENT_EXPECTED],
+    out: &mut [u8; LENT_OUT],
     counts: Counts,
 ) -> usize
     ensures { wrote result out.new ≡ written (listing_of nodes.now errors.now expected.now counts) out.old }
 {
-    sized_listing(
-        nodes,
-        errors,
-        expected,
-        out,
-        counts.reads,
-        counts.nodes,
-        counts.errors,
-    )
+    listing(nodes, errors, expected, out, counts).unwrap()
 }
 
-fn refusal_line(out: &mut [u8], pen: Pen, number: u8) -> Pen
-    ensures { page out.new result ≡ emits (refusal_of number) (page out.old pen) }
+fn refusal_line(page: &mut Page, number: u8)
+    ensures { page.new ≡ emits (refusal_of number) page.old }
 {
-    let p1 = put_bytes(out, pen, b"refused ");
-    let p2 = put_number(out, p1, number as u64);
-    put_byte(out, p2, b'\n')
+    page.put_bytes(b"refused ");
+    page.put_number(u64::from(number));
+    page.put_byte(b'\n');
 }
 
-// What is printed for a refusal.
-pub fn refusal(out: &mut [u8], number: u8) -> Listed
+// What is printed for a refusal, and how many bytes it has.
+pub fn refusal(out: &mut [u8], number: u8) -> Option<usize>
     ensures { as_listed result out.new ≡ written (refusal_of number) out.old }
 {
     let room = out.len() + 1;
-    let measured = refusal_line(&mut out[..0], Pen { at: 0, room }, number);
+    let mut measured = Page {
+        out: &mut [],
+        at: 0,
+        room,
+    };
+    refusal_line(&mut measured, number);
     if out.len() < measured.at {
-        return Listed::NoRoom;
+        return None;
     }
-    let done = refusal_line(out, Pen { at: 0, room }, number);
-    Listed::Written(done.at)
+    let mut page = Page { out, at: 0, room };
+    refusal_line(&mut page, number);
+    Some(page.at)
 }

@@ -1,69 +1,59 @@
 // Writing bytes, numbers and words into a lent buffer.
 ghost use Rattle.std.specs.Prelude.{◌≡◌, [], ◌∷◌, ◌+◌, ◌*◌, ◌%◌, ◌^◌};
-ghost use Rattle.listing.specs.Page.{page, emits};
+ghost use Rattle.listing.specs.Page.{emits};
 ghost use Rattle.listing.specs.Decimal.{decimal, integer};
 
-// Where the next byte goes, and where the counting stops.
-#[derive(Clone, Copy)]
-pub struct Pen {
+// A lent buffer, where its next byte goes, and where the counting stops.
+#[derive(Drop)]
+pub struct Page<'a> {
+    pub out: &'a mut [u8],
     pub at: usize,
     pub room: usize,
 }
 
-// One byte. Past the end of the buffer it is counted and not written; at the end of the room nothing happens.
-pub fn put_byte(out: &mut [u8], pen: Pen, b: u8) -> Pen
-    ensures { page out.new result ≡ emits (b ∷ []) (page out.old pen) }
-{
-    let at = pen.at;
-    let room = pen.room;
-    if room <= at {
-        return pen;
+impl<'a> Page<'a> {
+    // One byte. Past the end of the buffer it is counted and not written; at the end of the room nothing happens.
+    pub fn put_byte(&mut self, b: u8)
+        ensures { self.new ≡ emits (b ∷ []) self.old }
+    {
+        if self.room <= self.at {
+            return;
+        }
+        if self.at < self.out.len() {
+            self.out[self.at] = b;
+        }
+        self.at += 1;
     }
-    let next = Pen { at: at + 1, room };
-    if at < out.len() {
-        out[at] = b;
-    }
-    next
-}
 
-// A fixed byte string.
-pub fn put_bytes(out: &mut [u8], pen: Pen, word: &[u8]) -> Pen
-    ensures { page out.new result ≡ emits word.now (page out.old pen) }
-{
-    let mut p = pen;
-    let mut i = 0;
-    while i < word.len() {
-        p = put_byte(out, p, word[i]);
-        i += 1;
+    // A fixed byte string.
+    pub fn put_bytes(&mut self, word: &[u8])
+        ensures { self.new ≡ emits word.now self.old }
+    {
+        for &b in word {
+            self.put_byte(b);
+        }
     }
-    p
-}
 
-fn digit(n: u64) -> u8
-    ensures { result ≡ 48 + n % 10 }
-{
-    b'0' + (n % 10) as u8
-}
-
-// A number in decimal.
-pub fn put_number(out: &mut [u8], pen: Pen, n: u64) -> Pen
-    ensures { page out.new result ≡ emits (decimal n) (page out.old pen) }
-{
-    if n < 10 {
-        return put_byte(out, pen, digit(n));
+    // A number in decimal.
+    pub fn put_number(&mut self, n: u64)
+        ensures { self.new ≡ emits (decimal n) self.old }
+    {
+        if 10 <= n {
+            self.put_number(n / 10);
+        }
+        self.put_byte(b'0' + (n % 10) as u8);
     }
-    let p = put_number(out, pen, n / 10);
-    put_byte(out, p, digit(n))
-}
 
-// The integer whose 64 bits, two's complement, are these words, the lower one first.
-pub fn put_integer(out: &mut [u8], pen: Pen, low: u32, high: u32) -> Pen
-    ensures { page out.new result ≡ emits (integer (low + 2 ^ 32 * high)) (page out.old pen) }
-{
-    let bits = low as u64 + 0x1_0000_0000 * (high as u64);
-    if bits < 0x8000_0000_0000_0000 {
-        return put_number(out, pen, bits);
+    // The integer whose 64 bits, two's complement, are these words, the lower one first.
+    pub fn put_integer(&mut self, low: u32, high: u32)
+        ensures { self.new ≡ emits (integer (low + 2 ^ 32 * high)) self.old }
+    {
+        let bits = u64::from(low) + 0x1_0000_0000 * u64::from(high);
+        if bits < 0x8000_0000_0000_0000 {
+            self.put_number(bits);
+        } else {
+            self.put_byte(b'-');
+            self.put_number(0xffff_ffff_ffff_ffff - bits + 1);
+        }
     }
-    let p = put_byte(out, pen, b'-');
-    put_number(out, p, 0xffff_ffff_ffff_ffff - bits + 1)
 }

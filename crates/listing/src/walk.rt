@@ -1,20 +1,13 @@
 // The walk over the tree in the node buffer: a parent before its children, in token order.
 ghost use Rattle.std.specs.Prelude.{◌≡◌, ◌+◌, ◌-◌, ◌<◌, min, length};
 ghost use Rattle.cursor.specs.Tree.{label};
-ghost use Rattle.listing.specs.Page.{page, emits};
+ghost use Rattle.listing.specs.Page.{emits};
 ghost use Rattle.listing.specs.Listing.{rows_from, row_lines, node_lines};
 
 use crate::lines::{node_line, word_at};
-use crate::page::Pen;
+use crate::page::Page;
 use cursor::Label;
 use cursor::records::{END, FIRST, FLAGS, KIND, NEXT, NODE_WORDS, ONE, START, TWO};
-
-// Where the pen stands, and how many records may still be printed.
-#[derive(Clone, Copy)]
-pub struct Walked {
-    pub pen: Pen,
-    pub left: u32,
-}
 
 // What record i says besides its links.
 fn label_at(nodes: &[u32], i: u32) -> Label
@@ -31,60 +24,50 @@ fn label_at(nodes: &[u32], i: u32) -> Label
     }
 }
 
-// The trees from a link on, at most `left` records of them: so it ends whatever the links say.
-fn walk(nodes: &[u32], out: &mut [u8], pen: Pen, link: u32, level: u32, left: u32) -> Walked
+// The trees from a link on, at most `left` records of them: so it ends whatever the links say. It answers how many may still be printed.
+fn walk(nodes: &[u32], page: &mut Page, link: u32, level: u32, left: u32) -> u32
     requires { level + left < 4294967296 }
-    ensures { (page out.new result.pen ≡ emits (row_lines (rows_from nodes.now link level left)) (page out.old pen)) × (result.left ≡ left - length (rows_from nodes.now link level left)) }
+    ensures lines { page.new ≡ emits (row_lines (rows_from nodes.now link level left)) page.old }
+    ensures left { result ≡ left - length (rows_from nodes.now link level left) }
 {
-    if left == 0 {
-        return Walked { pen, left };
-    }
-    if link == 0 {
-        return Walked { pen, left };
+    if left == 0 || link == 0 {
+        return left;
     }
     let i = link - 1;
     let base = NODE_WORDS * (i as usize);
-    let line = node_line(out, pen, level, label_at(nodes, i));
+    node_line(page, level, label_at(nodes, i));
     let below = walk(
         nodes,
-        out,
-        line,
+        page,
         word_at(nodes, base + FIRST),
         level + 1,
         left - 1,
     );
-    let after = below.pen;
-    walk(
-        nodes,
-        out,
-        after,
-        word_at(nodes, base + NEXT),
-        level,
-        below.left,
-    )
+    walk(nodes, page, word_at(nodes, base + NEXT), level, below)
 }
 
 // The smaller of a count and the whole records that fit.
 pub fn within(count: u32, room: usize) -> u32
     ensures { result ≡ min count room }
 {
-    if room < count as usize {
-        return room as u32;
-    }
-    count
+    room.min(count as usize) as u32
 }
 
 // The tree of a reading of so many records, whose root is the last of them.
-pub fn node_lines(nodes: &[u32], out: &mut [u8], pen: Pen, count: u32) -> Pen
-    ensures { page out.new result ≡ emits (node_lines nodes.now count) (page out.old pen) }
+pub fn node_lines(nodes: &[u32], page: &mut Page, count: u32)
+    ensures { page.new ≡ emits (node_lines nodes.now count) page.old }
 {
     let left = within(count, nodes.len() / NODE_WORDS);
     if left == 0 {
-        return pen;
+        return;
     }
     let root = count - 1;
-    let line = node_line(out, pen, 0, label_at(nodes, root));
-    let first = word_at(nodes, NODE_WORDS * (root as usize) + FIRST);
-    let walked = walk(nodes, out, line, first, 1, left - 1);
-    walked.pen
+    node_line(page, 0, label_at(nodes, root));
+    walk(
+        nodes,
+        page,
+        word_at(nodes, NODE_WORDS * (root as usize) + FIRST),
+        1,
+        left - 1,
+    );
 }

@@ -1,15 +1,14 @@
 -- What the rules on atoms and operators add to the live list.
+use Rattle.std.specs.Prelude.{Some, None, Option}
 use mathlib.Core.Path.{refl}
 use mathlib.Core.Bool.{Bool, true, false}
 use Prim.Native.Nat.{ℕ, ◌+◌}
 use lib.Dec.{ltb, eqb}
 use Rattle.kinds.specs.Number as kind
-use Rattle.kinds.specs.declared.operator.Operator.{Operator}
-use Rattle.kinds.specs.declared.operator.Operator.TheVariants as operators
+use Rattle.kinds.specs.declared.operator.BinOp.{BinOp}
 use Rattle.kinds.specs.Operators.{binary_of, precedence_of}
 use Rattle.cursor.specs.declared.Kids.{Kids}
 use Rattle.cursor.specs.declared.Span.{Span}
-use Rattle.cursor.specs.declared.Ranged.TheVariants as ranged
 use Rattle.cursor.specs.Node as node
 use Rattle.cursor.specs.Sheet.{kind_at, range_at}
 use Rattle.cursor.specs.Rule.{Rule}
@@ -48,15 +47,15 @@ module _ {r : Inner} {N : ℕ} (x : Handed r N) where
 
   fn-bounded : (from : ℕ) → Takes r.sheet N 0 36 42 112 (fn_expr r from)
   unfolding fn_expr
-  fn-bounded from = takes (onto bump-bounded (λ _. after (function-bounded x from false) (λ f. fn-record-bounded from ranged.Nowhere 0 f))) refl refl refl refl
+  fn-bounded from = takes (onto bump-bounded (λ _. after (function-bounded x from false) (λ f. fn-record-bounded from None 0 f))) refl refl refl refl
 
   closure-bounded : (from : ℕ) → Takes r.sheet N 1 36 42 112 (closure_expr r from)
   unfolding closure_expr
-  closure-bounded from = takes (after (function-bounded x from true) (λ f. fn-record-bounded from ranged.Nowhere 0 f)) refl refl refl refl
+  closure-bounded from = takes (after (function-bounded x from true) (λ f. fn-record-bounded from None 0 f)) refl refl refl refl
 
   do-bounded : (from : ℕ) → Takes r.sheet N 0 36 36 112 (do_expr r from)
   unfolding do_expr
-  do-bounded from = takes (onto bump-bounded (λ _. after (block-bounded x 0) (λ body. binds (close-bounded node.Do from 0 0 0 body) (λ f. fn-record-bounded from ranged.Nowhere 0 f)))) refl refl refl refl
+  do-bounded from = takes (onto bump-bounded (λ _. after (block-bounded x 0) (λ body. binds (close-bounded node.Do from 0 0 0 body) (λ f. fn-record-bounded from None 0 f)))) refl refl refl refl
 
   alternate-bounded : Takes r.sheet N 20 36 42 112 (alternate r)
   unfolding alternate
@@ -165,10 +164,10 @@ module _ {r : Inner} {N : ℕ} (x : Handed r N) where
   unfolding operated
   operated-bounded from lambda a k level = fits (ifs (eqb k kind.Is) (type-check-bounded from a) (after (x.prec (level + 1) lambda) (λ b. binds (couple-bounded node.Binary from k (link_of a) (link_of b)) (λ link. gives)))) refl refl refl refl refl
 
-  infix-by-bounded : (from min : ℕ) (lambda : Bool) (a : Expr) (k : ℕ) (o : Operator) → Turns r.sheet N 0 32 32 42 112 (infix_by r from min lambda a k o)
+  infix-by-bounded : (from min : ℕ) (lambda : Bool) (a : Expr) (k : ℕ) (o : Option BinOp) → Turns r.sheet N 0 32 32 42 112 (infix_by r from min lambda a k o)
   unfolding infix_by
-  infix-by-bounded from min lambda a k (operators.Binary op) = fits (ifs (ltb (precedence_of op) min) stops (onto bump-bounded (λ _. operated-bounded from lambda a k (precedence_of op)))) refl refl refl refl refl
-  infix-by-bounded from min lambda a k operators.Nothing = fits (stops) refl refl refl refl refl
+  infix-by-bounded from min lambda a k (Some op) = fits (ifs (ltb (precedence_of op) min) stops (onto bump-bounded (λ _. operated-bounded from lambda a k (precedence_of op)))) refl refl refl refl refl
+  infix-by-bounded from min lambda a k None = fits (stops) refl refl refl refl refl
 
   infix-turn-bounded : (from min : ℕ) (lambda : Bool) (a : Expr) → Turns r.sheet N 0 32 32 42 112 (infix_turn r from min lambda a)
   unfolding infix_turn

@@ -1,4 +1,5 @@
 -- What the rules of cursor add to the live list.
+use Rattle.std.specs.Prelude.{Some, None}
 use mathlib.Core.Path.{◌≡◌, refl, sym, ap, ◌∙◌}
 use mathlib.Core.List.{List, [], ◌∷◌}
 use mathlib.Core.Bool.{Bool, true, false, false≢true, true≢false}
@@ -14,10 +15,8 @@ use Rattle.cursor.specs.declared.Fault.{Fault}
 use Rattle.cursor.specs.declared.Kids.{Kids}
 use Rattle.cursor.specs.declared.Label.{Label}
 use Rattle.cursor.specs.declared.Span.{Span}
-use Rattle.cursor.specs.declared.Ranged.{Ranged}
-use Rattle.cursor.specs.declared.Ranged.TheVariants as ranged
+use Rattle.cursor.specs.Sheet.{Sheet, count, kind_at, Ranged}
 use Rattle.cursor.specs.Layout.{node_words, error_words, node_limit, error_limit, expected_limit}
-use Rattle.cursor.specs.Sheet.{Sheet, count, kind_at}
 use Rattle.cursor.specs.Rule.{World, Out, Rule, ◌>>=◌, give, if_so, iterate}
 use Rattle.cursor.specs.Tokens.{past_from, past_trivia, eat_trivia, bump, eol_turn, eat_eol}
 use Rattle.cursor.specs.Checks.{live_room, want, check, eat, expect, eat_range, unexpected, Case, ◌⇒◌, choose}
@@ -63,17 +62,17 @@ asks {e} {N} {ψ = ψ} {a2 = a2} {m2 = m2} {b2 = b2} {f2 = f2} {j2 = j2} {a3 = a
     not false p = n
 
 -- the same where the answer is a range or none
-pub ranges : {e : Sheet} {N : ℕ} {B : Type 0} {ψ : B → Bool} {a1 m1 b1 f1 j1 a2 m2 b2 f2 j2 a3 m3 b3 f3 j3 : ℕ} {r : Rule Ranged} (k : Ranged → Rule B) → Bounded e N is_ended a1 m1 b1 f1 j1 r → ((c : Span) → Bounded e N none a2 m2 b2 f2 j2 (k (ranged.At c))) → Bounded e N ψ a3 m3 b3 f3 j3 (k ranged.Nowhere)
+pub ranges : {e : Sheet} {N : ℕ} {B : Type 0} {ψ : B → Bool} {a1 m1 b1 f1 j1 a2 m2 b2 f2 j2 a3 m3 b3 f3 j3 : ℕ} {r : Rule Ranged} (k : Ranged → Rule B) → Bounded e N is_ended a1 m1 b1 f1 j1 r → ((c : Span) → Bounded e N none a2 m2 b2 f2 j2 (k (Some c))) → Bounded e N ψ a3 m3 b3 f3 j3 (k None)
     → Bounded e N ψ (a1 + a3) (max (max (m1 + a2) b2) m3) (max (max (m1 + a2) b2) (max (b1 + a3) b3)) (max f1 (max (max (m1 + a2) f2) (max (b1 + a3) f3))) (max j1 (max (max (m1 + a2) j2) (max (b1 + a3) j3))) (r >>= k)
 ranges {e} {N} {ψ = ψ} {a2 = a2} {m2 = m2} {b2 = b2} {f2 = f2} {j2 = j2} {a3 = a3} {m3 = m3} {b3 = b3} {f3 = f3} {j3 = j3} k x y n = splits x so not
   where
     so : (c : Ranged) → is_ended c ≡ true → Bounded e N none a2 m2 b2 f2 j2 (k c)
-    so (ranged.At c) p = y c
-    so ranged.Nowhere p = absurd (false≢true p)
+    so (Some c) p = y c
+    so None p = absurd (false≢true p)
 
     not : (c : Ranged) → is_ended c ≡ false → Bounded e N ψ a3 m3 b3 f3 j3 (k c)
-    not (ranged.At c) p = absurd (true≢false p)
-    not ranged.Nowhere p = n
+    not (Some c) p = absurd (true≢false p)
+    not None p = n
 
 -- what the ways of a chain of checks add: the one that is taken, or one kind and what the ways behind it add, down to the other rule
 infixr 30 ◌&◌
@@ -161,7 +160,7 @@ module _ {e : Sheet} {N : ℕ} where
   unfolding expect
   expect-bounded k = takes (asks (eat-bounded k) gives unexpected-bounded) refl refl refl refl
 
-  nowhere : Bounded e N is_ended 0 0 0 0 0 (give ranged.Nowhere)
+  nowhere : Bounded e N is_ended 0 0 0 0 0 (give None)
   nowhere = record { ends = λ s w h g t. well (h, same refl (no_more _ _)) }
 
   pub eat-range-bounded : (k : ℕ) → Bounded e N is_ended 1 0 0 0 0 (eat_range e k)

@@ -1,4 +1,5 @@
 -- What the rules on literals, names and lists of items add to the live list.
+use Rattle.std.specs.Prelude.{Some, None}
 use mathlib.Core.Path.{◌≡◌, refl}
 use mathlib.Core.Bool.{true}
 use Prim.Native.Nat.{ℕ, zero, suc}
@@ -6,9 +7,7 @@ use lib.Dec.{leb}
 use Rattle.kinds.specs.Number as kind
 use Rattle.cursor.specs.declared.Kids.{Kids}
 use Rattle.cursor.specs.declared.Span.{Span}
-use Rattle.cursor.specs.declared.Ranged.{Ranged}
-use Rattle.cursor.specs.declared.Ranged.TheVariants as ranged
-use Rattle.cursor.specs.Sheet.{Sheet, kind_at, range_at}
+use Rattle.cursor.specs.Sheet.{Sheet, kind_at, range_at, Ranged}
 use Rattle.cursor.specs.Rule.{Rule}
 use Rattle.cursor.specs.Records.{no_kids}
 use Rattle.types.specs.declared.items.Items.{Items}
@@ -54,8 +53,8 @@ module _ {e : Sheet} {N : ℕ} where
 
   lit-at-bounded : (k : ℕ) (r : Ranged) → Takes e N 0 0 0 0 (lit_at e k r)
   unfolding lit_at
-  lit-at-bounded k (ranged.At r) = takes (lit-from-bounded r (literal e.text k r)) refl refl refl refl
-  lit-at-bounded k ranged.Nowhere = takes (unexpected-bounded) refl refl refl refl
+  lit-at-bounded k (Some r) = takes (lit-from-bounded r (literal e.text k r)) refl refl refl refl
+  lit-at-bounded k None = takes (unexpected-bounded) refl refl refl refl
 
   pub lit-bounded : Takes e N 0 0 0 0 (lit e)
   unfolding lit
@@ -63,8 +62,8 @@ module _ {e : Sheet} {N : ℕ} where
 
   ident-at-bounded : (r : Ranged) → Takes e N 1 0 0 0 (ident_at e r)
   unfolding ident_at
-  ident-at-bounded (ranged.At r) = takes (after (expect-bounded kind.Ident) (λ _. append-bounded _ 0)) refl refl refl refl
-  ident-at-bounded ranged.Nowhere = takes (unexpected-bounded) refl refl refl refl
+  ident-at-bounded (Some r) = takes (after (expect-bounded kind.Ident) (λ _. append-bounded _ 0)) refl refl refl refl
+  ident-at-bounded None = takes (unexpected-bounded) refl refl refl refl
 
   pub ident-bounded : Takes e N 1 0 0 0 (ident e)
   unfolding ident

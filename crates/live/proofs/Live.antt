@@ -13,26 +13,25 @@ use borrow.Author.Tests.{leb-true}
 use Rattle.kinds.specs.Kinds.{is_trivia}
 use Rattle.cursor.specs.declared.State.{State}
 use Rattle.cursor.specs.declared.Fault.{Fault}
-use Rattle.cursor.specs.declared.Failure.{Failure}
 use Rattle.cursor.specs.Sheet.{Sheet, kind_at}
-use Rattle.cursor.specs.Rule.{World, fault, refusal, refused, Out, done, failed, bind, or_else, Rule, give, refuse, if_so, Next, more, stop}
+use Rattle.cursor.specs.Rule.{World, fault, refused, Out, done, failed, bind, or_else, Rule, give, refuse, if_so, Next, more, stop}
 use Rattle.cursor.specs.Checks.{live_room}
 
 -- how a rule ends: P holds where it is done, F where it fails by a fault; and where the whole reading is refused it is not for a full live list
 pub data Ends {A : Type 0} (P : State → A → Type 0) (F : State → Type 0) : Out A → Type 0 where
   well : {s : State} {w : World} {a : A} → P s a → Ends P F (done s w a)
   ill : {s : State} {w : World} {f : Fault} → F s → Ends P F (failed (fault s w f))
-  cut : {n : ℕ} → (n ≡ 11 → ⊥) → Ends P F (failed (refused (refusal n)))
+  cut : {n : ℕ} → (n ≡ 11 → ⊥) → Ends P F (failed (refused n))
 
 module _ {A : Type 0} {P : State → A → Type 0} {F : State → Type 0} where
   pub branch : (b : Bool) {x y : Out A} → (b ≡ true → Ends P F x) → (b ≡ false → Ends P F y) → Ends P F (elim b as (λ _. Out A) [ true ↦ x | false ↦ y ])
   branch true f g = f refl
   branch false f g = g refl
 
-  pub not_full : {o : Out A} {f : Failure} → Ends P F o → o ≡ failed (refused f) → f.number ≡ 11 → ⊥
+  pub not_full : {o : Out A} {n : ℕ} → Ends P F o → o ≡ failed (refused n) → n ≡ 11 → ⊥
   not_full h q = by (subst (λ o. Ends P F o) q h)
     where
-      by : {f : Failure} → Ends P F (failed (refused f)) → f.number ≡ 11 → ⊥
+      by : {n : ℕ} → Ends P F (failed (refused n)) → n ≡ 11 → ⊥
       by (cut p) = p
 
 pub weaken : {A : Type 0} {P Q : State → A → Type 0} {F G : State → Type 0} {o : Out A} → Ends P F o → ((s : State) (a : A) → P s a → Q s a) → ((s : State) → F s → G s) → Ends Q G o

@@ -1,4 +1,5 @@
 -- What the records and steps of parts add to the live list.
+use Rattle.std.specs.Prelude.{Some, None, Option}
 use mathlib.Core.Path.{refl}
 use mathlib.Core.Bool.{Bool}
 use Prim.Native.Nat.{ℕ, zero, suc}
@@ -6,18 +7,14 @@ use Rattle.kinds.specs.Number as kind
 use Rattle.cursor.specs.declared.Kids.{Kids}
 use Rattle.cursor.specs.declared.Fault.{Fault}
 use Rattle.cursor.specs.declared.Span.{Span}
-use Rattle.cursor.specs.declared.Ranged.{Ranged}
-use Rattle.cursor.specs.declared.Ranged.TheVariants as ranged
+use Rattle.cursor.specs.Sheet.{Sheet, kind_at, range_at, Ranged}
 use Rattle.cursor.specs.Node as node
-use Rattle.cursor.specs.Sheet.{Sheet, kind_at, range_at}
 use Rattle.cursor.specs.Rule.{Rule}
 use Rattle.cursor.specs.Records.{no_kids}
 use Rattle.types.specs.declared.items.Items.{Items}
 use Rattle.types.specs.Items.{is_ended}
 use Rattle.parts.specs.declared.values.Called.{Called}
 use Rattle.parts.specs.declared.values.Expr.{Expr}
-use Rattle.parts.specs.declared.steps.Checked.{Checked}
-use Rattle.parts.specs.declared.steps.Checked.TheVariants as checked
 use Rattle.parts.specs.Values.{link_of}
 use Rattle.parts.specs.When.{fail_with}
 use Rattle.parts.specs.Records.{couple, row_record, list_record, wrapped, block_record, fn_record, function_kind, function_record, handler_record, handlers_flagged, if_record, call_record, member_record}
@@ -124,15 +121,15 @@ module _ {e : Sheet} {N : ℕ} where
     unfolding case_patterns
     case-patterns-bounded = adds (loops pattern-turn-bounded e no_kids) refl refl refl refl
 
-  type-checked-bounded : (from : ℕ) (x : Expr) (r : Span) (c : Checked) → Turns e N 0 0 0 0 0 (type_checked e from x r c)
+  type-checked-bounded : (from : ℕ) (x : Expr) (r : Span) (c : Option ℕ) → Turns e N 0 0 0 0 0 (type_checked e from x r c)
   unfolding type_checked
-  type-checked-bounded from x r (checked.Type n) = fits (after bump-bounded (λ _. binds (close-bounded node.TypeCheck from n _ 0 (link_of x)) (λ link. gives))) refl refl refl refl refl
-  type-checked-bounded from x r checked.Unknown = fits (unexpected-bounded) refl refl refl refl refl
+  type-checked-bounded from x r (Some n) = fits (after bump-bounded (λ _. binds (close-bounded node.TypeCheck from n _ 0 (link_of x)) (λ link. gives))) refl refl refl refl refl
+  type-checked-bounded from x r None = fits (unexpected-bounded) refl refl refl refl refl
 
   type-check-at-bounded : (from : ℕ) (x : Expr) (k : ℕ) (r : Ranged) → Turns e N 0 0 0 0 0 (type_check_at e from x k r)
   unfolding type_check_at
-  type-check-at-bounded from x k (ranged.At r) = fits (type-checked-bounded from x r (checked_type e.text k r)) refl refl refl refl refl
-  type-check-at-bounded from x k ranged.Nowhere = fits (unexpected-bounded) refl refl refl refl refl
+  type-check-at-bounded from x k (Some r) = fits (type-checked-bounded from x r (checked_type e.text k r)) refl refl refl refl refl
+  type-check-at-bounded from x k None = fits (unexpected-bounded) refl refl refl refl refl
 
   pub type-check-bounded : (from : ℕ) (x : Expr) → Turns e N 0 0 0 0 0 (type_check e from x)
   unfolding type_check

@@ -5,7 +5,6 @@ use native.Mathlib.Nat.{le_trans}
 use native.Mathlib.Omega.{arith}
 use Rattle.kinds.specs.Number as kind
 use Rattle.cursor.specs.declared.State.{State}
-use Rattle.cursor.specs.declared.Failure.{Failure}
 use Rattle.cursor.specs.Sheet.{Sheet}
 use Rattle.cursor.specs.Rule.{World, refused, failed}
 use Rattle.cursor.specs.Checks.{live_room}
@@ -35,9 +34,9 @@ unfolding program knot start program_record
 program-ends e zero s w h q = cut {n = 9} (λ p. omega arith)
 program-ends e (suc d) s w h q = then (body-anywhere (levels-handed e d) kind.Eof s w (omega arith) (omega arith)) (λ _ z. z) (λ s1 w1 row l. weaken ((append-still _ row.first).stays s1 w1) (λ s2 _ z. le_trans z.1 l) (λ _ z. absurd z))
 
-pub never-full : (e : Sheet) (d : ℕ) (w : World) (s : State) {f : Failure} → d ≤ 64 → s.live ≡ 0 → program (levels e d) s w ≡ failed (refused f) → f.number ≡ 11 → ⊥
+pub never-full : (e : Sheet) (d : ℕ) (w : World) (s : State) {n : ℕ} → d ≤ 64 → s.live ≡ 0 → program (levels e d) s w ≡ failed (refused n) → n ≡ 11 → ⊥
 never-full e d w s h q = not_full (program-ends e d s w h q)
 
 -- whatever the limits and the buffers are
-pub program-bounded : (e : Sheet) (w : World) (s : State) (f : Failure) → s.live ≡ 0 → program (levels e 64) s w ≡ failed (refused f) → f.number ≡ 11 → ⊥
-program-bounded e w s f q = never-full e 64 w s (omega arith) q
+pub program-bounded : (e : Sheet) (w : World) (s : State) (n : ℕ) → s.live ≡ 0 → program (levels e 64) s w ≡ failed (refused n) → n ≡ 11 → ⊥
+program-bounded e w s n q = never-full e 64 w s (omega arith) q

@@ -1,4 +1,5 @@
 -- What the rules on statements add to the live list.
+use Rattle.std.specs.Prelude.{Some, None, Option}
 use mathlib.Core.Path.{refl}
 use mathlib.Core.Bool.{Bool, true, false}
 use Prim.Native.Nat.{ℕ, ◌+◌, max}
@@ -6,7 +7,6 @@ use lib.Dec.{ltb, eqb}
 use Rattle.kinds.specs.Number as kind
 use Rattle.cursor.specs.declared.Kids.{Kids}
 use Rattle.cursor.specs.declared.Span.{Span}
-use Rattle.cursor.specs.declared.Ranged.TheVariants as ranged
 use Rattle.cursor.specs.Node as node
 use Rattle.cursor.specs.Sheet.{Sheet}
 use Rattle.cursor.specs.Rule.{Rule, ◌>>=◌, give, Next, more}
@@ -14,8 +14,6 @@ use Rattle.cursor.specs.Records.{add}
 use Rattle.parts.specs.declared.values.Called.{Called}
 use Rattle.parts.specs.declared.values.Expr.{Expr}
 use Rattle.parts.specs.declared.values.Expr.TheVariants as exprs
-use Rattle.parts.specs.declared.values.AssignLeft.{AssignLeft}
-use Rattle.parts.specs.declared.values.AssignLeft.TheVariants as assigns
 use Rattle.parts.specs.Values.{to_assign_left, row_with, uncounted}
 use Rattle.parts.specs.When.{fail_with}
 use Rattle.parts.specs.Steps.{alone, operator_of}
@@ -48,10 +46,10 @@ module _ {r : Inner} {N : ℕ} (x : Handed r N) where
   unfolding right
   right-bounded from k op link = takes (after (expr-bounded x true) (λ value. couple-bounded k from op link value)) refl refl refl refl
 
-  set-to-bounded : (from sign : ℕ) (l : AssignLeft) → Takes r.sheet N 0 32 42 112 (set_to r from sign l)
+  set-to-bounded : (from sign : ℕ) (l : Option ℕ) → Takes r.sheet N 0 32 42 112 (set_to r from sign l)
   unfolding set_to
-  set-to-bounded from sign (assigns.To link) = takes (onto bump-bounded (λ _. ifs (eqb sign kind.Assign) (right-bounded from node.Assign 0 link) (right-bounded from node.AssignOp (operator_of sign) link))) refl refl refl refl
-  set-to-bounded from sign assigns.Nothing = takes (unexpected-bounded) refl refl refl refl
+  set-to-bounded from sign (Some link) = takes (onto bump-bounded (λ _. ifs (eqb sign kind.Assign) (right-bounded from node.Assign 0 link) (right-bounded from node.AssignOp (operator_of sign) link))) refl refl refl refl
+  set-to-bounded from sign None = takes (unexpected-bounded) refl refl refl refl
 
   set-bounded : (from sign : ℕ) (a : Expr) → Takes r.sheet N 0 32 42 112 (set r from sign a)
   unfolding set
@@ -65,7 +63,7 @@ module _ {r : Inner} {N : ℕ} (x : Handed r N) where
   typed-bounded from (exprs.Other link) = takes (unexpected-bounded) refl refl refl refl
 
   -- one left side more: by the sort of its expression
-  left-of-bounded : (comma : Span) (kids : Kids) → Adds r.sheet N 19 32 42 112 (left_of r (ranged.At comma) kids)
+  left-of-bounded : (comma : Span) (kids : Kids) → Adds r.sheet N 19 32 42 112 (left_of r (Some comma) kids)
   unfolding left_of
   left-of-bounded comma kids = adds (after-expr _ (x.prec 1 true) joins joins (λ link called. refused) (λ link. refused)) refl refl refl refl
     where
@@ -91,13 +89,13 @@ module _ {r : Inner} {N : ℕ} (x : Handed r N) where
   unfolding rights
   rights-bounded from left value = adds (binds (add-bounded (uncounted left) value) (λ begun. binds (loops (right-turn-bounded left.count) r.sheet begun) (λ kids. close-bounded node.AssignMulti from 0 0 _ kids.first))) refl refl refl refl
 
-  multi-to-bounded : (from : ℕ) (l : AssignLeft) → Takes r.sheet N 2 34 42 112 (multi_to r from l)
+  multi-to-bounded : (from : ℕ) (l : Option ℕ) → Takes r.sheet N 2 34 42 112 (multi_to r from l)
   unfolding multi_to
-  multi-to-bounded from (assigns.To one) =
+  multi-to-bounded from (Some one) =
       takes (binds (lefts-bounded (row_with one)) (λ kids. onto (expect-bounded kind.Assign) (λ _. after (expr-bounded x true) (λ value. binds (check-bounded kind.Comma) (λ several. ifs several
       (rights-bounded from kids value)
       (row-record-bounded node.AssignUnpack from kids value)))))) refl refl refl refl
-  multi-to-bounded from assigns.Nothing = takes (unexpected-bounded) refl refl refl refl
+  multi-to-bounded from None = takes (unexpected-bounded) refl refl refl refl
 
   multi-bounded : (from : ℕ) (a : Expr) → Takes r.sheet N 2 34 42 112 (multi r from a)
   unfolding multi
@@ -120,11 +118,11 @@ module _ {r : Inner} {N : ℕ} (x : Handed r N) where
 
   plain-bounded : Takes r.sheet N 22 42 42 112 (plain r)
   unfolding plain
-  plain-bounded = takes (binds start-bounded (λ from. chooses (import-stmt-bounded from & effect-stmt-bounded x.type_atom from ranged.Nowhere & glo-bounded from & otherwise (assign-bounded from)))) refl refl refl refl
+  plain-bounded = takes (binds start-bounded (λ from. chooses (import-stmt-bounded from & effect-stmt-bounded x.type_atom from None & glo-bounded from & otherwise (assign-bounded from)))) refl refl refl refl
 
   function-stmt-bounded : Takes r.sheet N 1 36 42 112 (function_stmt r)
   unfolding function_stmt
-  function-stmt-bounded = takes (binds start-bounded (λ from. fn-stmt-bounded x from ranged.Nowhere)) refl refl refl refl
+  function-stmt-bounded = takes (binds start-bounded (λ from. fn-stmt-bounded x from None)) refl refl refl refl
 
   pub stmt-bounded : Takes r.sheet N 23 42 42 112 (stmt r)
   unfolding stmt

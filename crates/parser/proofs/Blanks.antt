@@ -4,31 +4,37 @@ use mathlib.Core.List.{List, [], ◌∷◌}
 use Prim.Native.Nat.{ℕ, zero, suc, ◌+◌, ◌<◌, ◌≤◌}
 use native.Mathlib.Omega.{arith}
 use lib.ListN.{length, get_or, set}
-use Rattle.parser.specs.Blank.{up_to, blank}
+use Rattle.parser.specs.Blank.{up_to, blank, cleared}
 
 -- one word more that is cleared by hand
-pub up-to-next : (xs : List ℕ) (i : ℕ) → up_to (i + 1) (set xs i 0) ≡ up_to i xs
-unfolding up_to
-up-to-next [] i = refl
-up-to-next (a ∷ xs) zero = refl
-up-to-next (a ∷ xs) (suc i) = let e : suc i + 1 ≡ suc (i + 1) = omega arith in rw e (ap {B = List ℕ} (λ r. a ∷ r) (up-to-next xs i))
+pub cleared-next : {A : Type 0} (b : A) (xs : List A) (i : ℕ) → cleared b (i + 1) (set xs i b) ≡ cleared b i xs
+unfolding cleared
+cleared-next b [] i = refl
+cleared-next b (a ∷ xs) zero = refl
+cleared-next {A} b (a ∷ xs) (suc i) = let e : suc i + 1 ≡ suc (i + 1) = omega arith in rw e (ap {B = List A} (λ r. a ∷ r) (cleared-next b xs i))
 
 -- nothing lies past the end
-pub up-to-all : (xs : List ℕ) (i : ℕ) → length xs ≤ i → up_to i xs ≡ xs
-unfolding up_to
-up-to-all [] i h = refl
-up-to-all (a ∷ xs) zero h = absurd (omega (arith, h))
-up-to-all (a ∷ xs) (suc i) h = ap {B = List ℕ} (λ r. a ∷ r) (up-to-all xs i (omega (arith, h)))
+pub cleared-all : {A : Type 0} (b : A) (xs : List A) (i : ℕ) → length xs ≤ i → cleared b i xs ≡ xs
+unfolding cleared
+cleared-all b [] i h = refl
+cleared-all b (a ∷ xs) zero h = absurd (omega (arith, h))
+cleared-all {A} b (a ∷ xs) (suc i) h = ap {B = List A} (λ r. a ∷ r) (cleared-all b xs i (omega (arith, h)))
+
+pub cleared-long : {A : Type 0} (b : A) (k : ℕ) (xs : List A) → length (cleared b k xs) ≡ length xs
+unfolding cleared
+cleared-long b k [] = refl
+cleared-long b zero (a ∷ xs) = ap suc (cleared-long b zero xs)
+cleared-long b (suc k) (a ∷ xs) = ap suc (cleared-long b k xs)
 
 -- cleared from its start on
 pub up-to-none : (xs : List ℕ) → up_to 0 xs ≡ blank xs
-unfolding up_to
+unfolding cleared
 up-to-none [] = refl
 up-to-none (a ∷ xs) = ap {B = List ℕ} (λ r. 0 ∷ r) (up-to-none xs)
 
 -- buffers of one length that agree below a place are the same where they are cleared from there on
 pub up-to-same : (k : ℕ) (xs ys : List ℕ) → length ys ≡ length xs → ((i : ℕ) → i < k → get_or ys i 0 ≡ get_or xs i 0) → up_to k xs ≡ up_to k ys
-unfolding up_to
+unfolding cleared
 up-to-same k [] [] l h = refl
 up-to-same k [] (b ∷ ys) l h = absurd (omega (arith, l))
 up-to-same k (a ∷ xs) [] l h = absurd (omega (arith, l))

@@ -1,17 +1,15 @@
 -- Demand 1: an outcome has a number up to 10, and counts and buffers are as the document says for it. The numbers of a reading are those of Blind's
 -- refusals, without 11, since the live list never fills.
+use Rattle.std.specs.Prelude.{Result, Ok, Err}
 use mathlib.Core.Path.{◌≡◌, refl}
 use mathlib.Core.List.{List}
 use Prim.Native.Nat.{ℕ, ◌≤◌}
 use native.Mathlib.Omega.{arith}
-use Rattle.cursor.specs.declared.Failure.{Failure}
 use Rattle.cursor.specs.Rule.{begin, refused, Out, failed}
 use Rattle.cursor.proofs.Ends as ends
 use Rattle.cursor.proofs.Keeps.{Mark, mark, mark-stands, same_refl}
 use Rattle.entry.specs.declared.Refusal.{Refusal}
 use Rattle.entry.specs.declared.Refusal.TheVariants.{TextTooLong, TooManyTokens, NotUtf8, BadKind, BadRange, BadQuotes}
-use Rattle.entry.specs.declared.Entry.{Entry}
-use Rattle.entry.specs.declared.Entry.TheVariants as entries
 use Rattle.entry.specs.Check.{refusal_number, entry_of}
 use Rattle.blind.proofs.Blind.{no_node, no-error, too-deep, all-spent, too-many-kinds, Twins, well, ill, cut}
 use Rattle.blind.proofs.Program.{program-blind}
@@ -35,7 +33,7 @@ record Ended (n e x : List ℕ) (o : Outcome) : Type 0 where
 cut_off : (k : ℕ) (n e x : List ℕ) → 7 ≤ k → k ≤ 10 → Ended n e x (unread k n e x)
 cut_off k n e x h g = record { numbered = g; late = λ _. h; cleared = λ _. refl; trimmed = λ q. absurd (omega (arith, h, q)) }
 
-ended : {m : Mark} {o p : Out ℕ} (n e x : List ℕ) → ((z : Failure) → o ≡ failed (refused z) → z.number ≡ 11 → ⊥) → Clean o → Twins m o p → Ended n e x (finished n e x o)
+ended : {m : Mark} {o p : Out ℕ} (n e x : List ℕ) → ((k : ℕ) → o ≡ failed (refused k) → k ≡ 11 → ⊥) → Clean o → Twins m o p → Ended n e x (finished n e x o)
 unfolding finished
 ended n e x never (ends.well c) (well h t) = record {
   numbered = omega arith;
@@ -70,7 +68,7 @@ unfit BadRange = record { some = omega arith; few = omega arith }
 unfit BadQuotes = record { some = omega arith; few = omega arith }
 
 module _ (text tokens : List ℕ) (allowance : ℕ) (n e x : List ℕ) where
-  let-in : entry_of text tokens ≡ entries.Fit → {o : Outcome} → Ended (blank n) (blank e) (blank x) o → Concluded text tokens n e x o
+  let-in : entry_of text tokens ≡ Ok tt → {o : Outcome} → Ended (blank n) (blank e) (blank x) o → Concluded text tokens n e x o
   let-in fit z = record {
     numbered = z.numbered;
     at-the-door = λ k h g. rw fit ((λ q. absurd (omega (arith, z.late (omega (arith, q, h)), q, g))), (λ q. absurd (omega (arith, q, h))));
@@ -79,7 +77,7 @@ module _ (text tokens : List ℕ) (allowance : ℕ) (n e x : List ℕ) where
     trimmed = z.trimmed;
   }
 
-  kept_out : (r : Refusal) → entry_of text tokens ≡ entries.Refused r → Concluded text tokens n e x (unread (refusal_number r) n e x)
+  kept_out : (r : Refusal) → entry_of text tokens ≡ Err r → Concluded text tokens n e x (unread (refusal_number r) n e x)
   kept_out r h = let d = unfit r in
       record {
         numbered = omega (arith, d.few);
@@ -89,10 +87,10 @@ module _ (text tokens : List ℕ) (allowance : ℕ) (n e x : List ℕ) where
         trimmed = λ q. absurd (omega (arith, d.some, q));
       }
 
-  by-entry : (c : Entry) → entry_of text tokens ≡ c → Concluded text tokens n e x (parse text tokens allowance n e x)
+  by-entry : (c : Result (Unit {0}) Refusal) → entry_of text tokens ≡ c → Concluded text tokens n e x (parse text tokens allowance n e x)
   unfolding parse
-  by-entry entries.Fit h = rw (h, parse) (let-in h (read text tokens allowance (blank n) (blank e) (blank x)))
-  by-entry (entries.Refused r) h = rw (h, parse) (kept_out r h)
+  by-entry (Ok tt) h = rw (h, parse) (let-in h (read text tokens allowance (blank n) (blank e) (blank x)))
+  by-entry (Err r) h = rw (h, parse) (kept_out r h)
 
   pub concluded : Concluded text tokens n e x (parse text tokens allowance n e x)
   concluded = by-entry (entry_of text tokens) refl

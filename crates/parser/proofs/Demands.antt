@@ -1,5 +1,6 @@
 -- Demands 2 and 3: where the answer is 0, no error is listed exactly when the sheet follows the grammar; then the records are its tree, each of them once,
 -- the tree's words are the sheet's, and the readings are the sum over its marks.
+use Rattle.std.specs.Prelude.{Result, Ok, Err}
 use mathlib.Core.Path.{◌≡◌, refl, sym, ap, ◌∙◌, subst}
 use mathlib.Core.List.{List, [], ◌∷◌}
 use Prim.Native.Nat.{ℕ, zero, suc, ◌-◌, ◌*◌, ◌^◌, ◌<◌}
@@ -7,17 +8,16 @@ use native.Mathlib.Omega.{arith}
 use lib.ListN.{length, get_or, replicate}
 use Rattle.kinds.specs.Number as kind
 use Rattle.cursor.specs.Layout.{node_words, cell}
-use Rattle.cursor.specs.Sheet.{Sheet, sheet, count, kind_at}
+use Rattle.cursor.specs.Sheet.{Sheet, count, kind_at}
 use Rattle.cursor.specs.Rule.{world, begin, fault, refused, Out, done, failed}
 use Rattle.cursor.specs.Checks.{live_room}
 use Rattle.cursor.specs.Tree.{word, size, meaning}
 use Rattle.cursor.specs.Visits.{uses}
 use Rattle.cursor.proofs.Finished.{Agree}
-use Rattle.entry.specs.declared.Entry.{Entry}
-use Rattle.entry.specs.declared.Entry.TheVariants as entries
+use Rattle.entry.specs.declared.Refusal.{Refusal}
 use Rattle.entry.specs.Check.{entry_of}
 use Rattle.entry.proofs.Sound.{fit-sheet}
-use Rattle.rules.specs.Levels.{under, program}
+use Rattle.rules.specs.Levels.{levels, program}
 use Rattle.grammar.specs.Places.{tokens_of}
 use Rattle.grammar.specs.Follows.{Follows, tree_of}
 use Rattle.grammar.specs.Words.{token_words, words}
@@ -29,26 +29,21 @@ use Rattle.complete.proofs.MeetsProgram.{Finds, finds, program-meets}
 use Rattle.sound.proofs.SoundProgram.{SheetRead, program-sound}
 use Rattle.marks.specs.Marks.{marks, readings}
 use Rattle.marks.proofs.Marked.{cost-marks}
-use Rattle.parser.specs.Blank.{up_to, blank}
+use Rattle.parser.specs.Blank.{up_to, blank, cleared}
 use Rattle.parser.specs.Outcome.{Outcome}
 use Rattle.parser.specs.Finish.{finished}
-use Rattle.parser.specs.Parse.{within, reading, parse}
+use Rattle.parser.specs.Parse.{depth, allowed, reading, parse}
 use Rattle.parser.specs.Demands.{Clean, tree_in}
+use Rattle.parser.proofs.Blanks.{cleared-long}
 use Rattle.parser.proofs.Numbers.{read-has-a-record}
 
 -- what lies below a place is not cleared
 up-to-below : (k : ℕ) (xs : List ℕ) (i : ℕ) → i < k → get_or (up_to k xs) i 0 ≡ get_or xs i 0
-unfolding up_to
+unfolding cleared
 up-to-below k [] i h = refl
 up-to-below zero (a ∷ xs) i h = absurd (omega (arith, h))
 up-to-below (suc k) (a ∷ xs) zero h = refl
 up-to-below (suc k) (a ∷ xs) (suc i) h = up-to-below k xs i (omega (arith, h))
-
-up-to-long : (k : ℕ) (xs : List ℕ) → length (up_to k xs) ≡ length xs
-unfolding up_to
-up-to-long k [] = refl
-up-to-long zero (a ∷ xs) = ap suc (up-to-long zero xs)
-up-to-long (suc k) (a ∷ xs) = ap suc (up-to-long k xs)
 
 records-stay : (m : ℕ) (xs : List ℕ) → Agree xs (up_to (node_words * m) xs) 0 m (node_words * m)
 unfolding word
@@ -63,9 +58,9 @@ pub record Faultless {text tokens : List ℕ} (f : Follows text tokens) (o : Out
 
 module _ (text tokens : List ℕ) (allowance : ℕ) where
   abbrev pub lent : Sheet
-  lent = sheet text tokens (within allowance).limits
+  lent = allowed text tokens allowance
 
-  module _ (fit : entry_of text tokens ≡ entries.Fit) where
+  module _ (fit : entry_of text tokens ≡ Ok tt) where
     pub few : length tokens < 2 ^ 32
     few = let h = (fit-sheet text tokens fit).few in omega (arith, h)
 
@@ -74,19 +69,19 @@ module _ (text tokens : List ℕ) (allowance : ℕ) where
     no_end i h q = ((fit-sheet text tokens fit).token i h).not_end (sym (in-range tokens i h) ∙ q)
 
     -- a reading that ended so
-    by_end : (n e x : List ℕ) (o : Out ℕ) → program (under text tokens (within allowance)) begin (world n e x (replicate live_room 0)) ≡ o → ((finished n e x o).number ≡ 0 → 0 < (finished n e x o).nodes) → Clean (finished n e x o)
+    by_end : (n e x : List ℕ) (o : Out ℕ) → program (levels (allowed text tokens allowance) depth) begin (world n e x (replicate live_room 0)) ≡ o → ((finished n e x o).number ≡ 0 → 0 < (finished n e x o).nodes) → Clean (finished n e x o)
         → SheetRead lent (finished n e x o).records (finished n e x o).nodes
     unfolding finished
-    by_end n e x (done s w link) q has c = program-sound lent few no_end _ s _ w link q c.flawless _ (records-stay s.nodes w.nodes) (up-to-long _ w.nodes)
+    by_end n e x (done s w link) q has c = program-sound lent few no_end _ s _ w link q c.flawless _ (records-stay s.nodes w.nodes) (cleared-long {A = ℕ} 0 _ w.nodes)
     by_end n e x (failed (refused k)) q has c = let h = has c.read in absurd (omega (arith, h))
     by_end n e x (failed (fault s w f)) q has c = let h = has c.read in absurd (omega (arith, h))
 
   module _ (n e x : List ℕ) where
-    by-entry : (c : Entry) → entry_of text tokens ≡ c → ((parse text tokens allowance n e x).number ≡ 0 → 0 < (parse text tokens allowance n e x).nodes) → Clean (parse text tokens allowance n e x)
+    by-entry : (c : Result (Unit {0}) Refusal) → entry_of text tokens ≡ c → ((parse text tokens allowance n e x).number ≡ 0 → 0 < (parse text tokens allowance n e x).nodes) → Clean (parse text tokens allowance n e x)
         → SheetRead lent (parse text tokens allowance n e x).records (parse text tokens allowance n e x).nodes
     unfolding parse reading
-    by-entry entries.Fit h = rw (h, parse) (by_end h (blank n) (blank e) (blank x) _ refl)
-    by-entry (entries.Refused r) h = rw (h, parse) (λ has c. let z = has c.read in absurd (omega (arith, z)))
+    by-entry (Ok tt) h = rw (h, parse) (by_end h (blank n) (blank e) (blank x) _ refl)
+    by-entry (Err r) h = rw (h, parse) (λ has c. let z = has c.read in absurd (omega (arith, z)))
 
     -- answered 0 with no error listed: the sheet follows the grammar, the last record means its tree, and every record belongs to that exactly once
     pub clean-sheet : Clean (parse text tokens allowance n e x) → SheetRead lent (parse text tokens allowance n e x).records (parse text tokens allowance n e x).nodes
@@ -94,16 +89,16 @@ module _ (text tokens : List ℕ) (allowance : ℕ) where
 
     -- of a sheet that follows the grammar and is answered 0 no error is listed, and its readings are the sum over its marks
     module _ (f : Follows text tokens) where
-      by-reading : (fit : entry_of text tokens ≡ entries.Fit) (n e x : List ℕ) (o : Out ℕ) → Finds lent (within allowance).depth f (world n e x (replicate live_room 0)) o → ((finished n e x o).number ≡ 0 → 0 < (finished n e x o).nodes) → (finished n e x o).number ≡ 0 → Faultless f (finished n e x o)
+      by-reading : (fit : entry_of text tokens ≡ Ok tt) (n e x : List ℕ) (o : Out ℕ) → Finds lent depth f (world n e x (replicate live_room 0)) o → ((finished n e x o).number ≡ 0 → 0 < (finished n e x o).nodes) → (finished n e x o).number ≡ 0 → Faultless f (finished n e x o)
       unfolding finished
       by-reading fit n e x (done s w link) (finds k) has q = record { errors = k.errors; expected = k.wanted; nodes = k.nodes ∙ sym (size-all f); reads = k.reads ∙ cost-marks f }
       by-reading fit n e x (failed (fault _ _ _)) r has q = elim r [ ]
       by-reading fit n e x (failed (refused k)) r has q = let h = has q in absurd (omega (arith, h))
 
-      by-check : (c : Entry) → entry_of text tokens ≡ c → ((parse text tokens allowance n e x).number ≡ 0 → 0 < (parse text tokens allowance n e x).nodes) → (parse text tokens allowance n e x).number ≡ 0 → Faultless f (parse text tokens allowance n e x)
+      by-check : (c : Result (Unit {0}) Refusal) → entry_of text tokens ≡ c → ((parse text tokens allowance n e x).number ≡ 0 → 0 < (parse text tokens allowance n e x).nodes) → (parse text tokens allowance n e x).number ≡ 0 → Faultless f (parse text tokens allowance n e x)
       unfolding parse reading
-      by-check entries.Fit h = rw (h, parse) (by-reading h (blank n) (blank e) (blank x) _ (program-meets lent (few h) _ _ f))
-      by-check (entries.Refused r) h = rw (h, parse) (λ has q. let z = has q in absurd (omega (arith, z)))
+      by-check (Ok tt) h = rw (h, parse) (by-reading h (blank n) (blank e) (blank x) _ (program-meets lent (few h) _ _ f))
+      by-check (Err r) h = rw (h, parse) (λ has q. let z = has q in absurd (omega (arith, z)))
 
       pub followed : (parse text tokens allowance n e x).number ≡ 0 → Faultless f (parse text tokens allowance n e x)
       followed = by-check (entry_of text tokens) refl (read-has-a-record text tokens allowance n e x)

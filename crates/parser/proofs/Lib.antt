@@ -1,5 +1,4 @@
 pub mod Blanks
-pub mod FinishPaths
 pub mod ParsePaths
 pub mod Numbers
 pub mod Theorems

@@ -1,5 +1,6 @@
 -- Demand 3's sentence on refusals as the document has it, from `Demands` alone: a sheet that follows the grammar, and for which there is room, is refused
 -- for its readings exactly if their sum passes the allowance.
+use Rattle.std.specs.Prelude.{Ok}
 use mathlib.Core.Path.{◌≡◌, refl}
 use mathlib.Core.List.{List}
 use mathlib.Core.Logic.{◌↔◌}
@@ -7,7 +8,6 @@ use Prim.Native.Nat.{ℕ, ◌<◌, ◌≤◌}
 use native.Mathlib.Omega.{arith}
 use native.Mathlib.Decide.{dec_lt}
 use Rattle.cursor.specs.Tree.{size}
-use Rattle.entry.specs.declared.Entry.TheVariants.{Fit}
 use Rattle.entry.specs.Check.{entry_of}
 use Rattle.grammar.specs.Follows.{Follows, tree_of}
 use Rattle.parser.specs.Outcome.{Outcome}
@@ -16,7 +16,7 @@ use Rattle.parser.specs.Demands.{node_room, levels, sum, Short, few-records, few
 
 -- a sheet that passes the entry check and follows the grammar, with room for the records of its tree and depth for its nesting
 pub record Roomy {text tokens : List ℕ} (f : Follows text tokens) (n : List ℕ) : Type 0 where
-  pub fit : entry_of text tokens ≡ Fit
+  pub fit : entry_of text tokens ≡ Ok tt
   pub room : size (tree_of f) ≤ node_room n
   pub deep : levels f ≤ depth
 

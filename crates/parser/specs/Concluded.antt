@@ -1,17 +1,16 @@
 -- Demand 1 of an outcome: whatever text and tokens are lent, however damaged, the answer is 0 or a refusal under its number, and counts and buffers are
 -- then as the document says.
-use Rattle.std.specs.Prelude.{◌≡◌, List, ◌↔◌, ℕ, ◌*◌, ◌≤◌, get_or}
+use Rattle.std.specs.Prelude.{◌≡◌, List, ◌↔◌, ℕ, ◌*◌, ◌≤◌, get_or, Result, Ok, Err}
 use Rattle.cursor.specs.Layout.{node_words, error_words}
-use Rattle.entry.specs.declared.Entry.{Entry}
-use Rattle.entry.specs.declared.Entry.TheVariants as entries
+use Rattle.entry.specs.declared.Refusal.{Refusal}
 use Rattle.entry.specs.Check.{refusal_number, entry_of}
 use Rattle.parser.specs.Blank.{blank}
 use Rattle.parser.specs.Outcome.{Outcome, unread}
 
 -- the number under which the entry check refuses; 0 where it does not
-abbrev pub door_number : Entry → ℕ
-door_number entries.Fit = 0
-door_number (entries.Refused r) = refusal_number r
+abbrev pub door_number : Result (Unit {0}) Refusal → ℕ
+door_number (Ok _) = 0
+door_number (Err r) = refusal_number r
 
 -- every word of a buffer from a place on is zero
 abbrev pub ZeroFrom : ℕ → List ℕ → Type 0

@@ -1,10 +1,9 @@
 -- Demands 2 and 3 of an outcome, and what they speak of: a reading without an error, the tree that it left, and what a sheet that follows the grammar
 -- takes: room for the records of its tree, depth for its nesting, an allowance for its readings.
-use Rattle.std.specs.Prelude.{◌≡◌, List, ◌↔◌, ℕ, suc, ◌-◌, ◌/◌, ◌<◌, ◌≤◌, min, length}
+use Rattle.std.specs.Prelude.{◌≡◌, List, ◌↔◌, ℕ, suc, ◌-◌, ◌/◌, ◌<◌, ◌≤◌, min, length, Ok}
 use Rattle.cursor.specs.Layout.{node_words, node_limit}
 use Rattle.cursor.specs.Tree.{Trees, size, meaning}
 use Rattle.cursor.specs.Visits.{uses}
-use Rattle.entry.specs.declared.Entry.TheVariants.{Fit}
 use Rattle.entry.specs.Check.{entry_of}
 use Rattle.grammar.specs.Places.{tokens_of, significant}
 use Rattle.grammar.specs.Follows.{Follows, tree_of}
@@ -69,4 +68,4 @@ pub record Demands (text tokens : List ℕ) (allowance : ℕ) (n : List ℕ) (o 
   pub summed : Clean o → (f : Follows text tokens) → o.reads ≡ sum f
   -- 3: past the entry check it is read exactly if there is room for its tree, depth for its nesting and an allowance for that sum, and otherwise refused
   -- for what there is not enough of. So, given room and depth, it is refused for its readings exactly if the sum passes the allowance
-  pub afforded : (f : Follows text tokens) → entry_of text tokens ≡ Fit → Afforded f allowance n o.number
+  pub afforded : (f : Follows text tokens) → entry_of text tokens ≡ Ok tt → Afforded f allowance n o.number

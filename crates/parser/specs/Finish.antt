@@ -1,15 +1,17 @@
 -- What the end of the program's rule comes to.
-use Rattle.std.specs.Prelude.{ℕ, ◌*◌, ◌<◌, List}
+use Rattle.std.specs.Prelude.{ℕ, ◌*◌, List}
 use Rattle.cursor.specs.declared.State.{State}
-use Rattle.cursor.specs.declared.Failure.{Failure}
+use Rattle.cursor.specs.declared.Stop.{Stop}
+use Rattle.cursor.specs.declared.Stop.TheVariants as stops
 use Rattle.cursor.specs.Layout.{node_words, error_words}
 use Rattle.cursor.specs.Rule.{fault, refused, Out, done, failed}
 use Rattle.parser.specs.Blank.{up_to}
 use Rattle.parser.specs.Outcome.{Outcome, unread}
 
--- a failure whose number is a byte's, as the document's are
-abbrev pub Numbered : Failure → Type 0
-Numbered f = f.number < 256
+-- an end that is no error of the sheet's own
+abbrev pub IsRefusal : Stop → Type 0
+IsRefusal (stops.Fault f) = ⊥
+IsRefusal (stops.Refused r) = Unit {0}
 
 -- a reading that is done: its counts, and the buffers with nothing past them
 abbrev pub trimmed : State → List ℕ → List ℕ → List ℕ → Outcome
@@ -22,5 +24,5 @@ never = 255
 -- how the program's rule ended that began on these buffers: done, or refused with the buffers as it found them
 unfoldable pub finished : List ℕ → List ℕ → List ℕ → Out ℕ → Outcome
 finished n e x (done s w link) = trimmed s w.nodes w.errors w.expected
-finished n e x (failed (refused f)) = unread f.number n e x
+finished n e x (failed (refused k)) = unread k n e x
 finished n e x (failed (fault s w f)) = unread never n e x

@@ -1,8 +1,11 @@
 -- What a reading comes to, as the document tells it: the answer's number, the four counts, and every word of the three buffers.
-use Rattle.std.specs.Prelude.{ℕ, List, [], ◌∷◌, get_or}
+use Rattle.std.specs.Prelude.{ℕ, List, [], ◌∷◌, get_or, Result, Ok, Err}
+use Rattle.cursor.specs.Answers as cut
+use Rattle.entry.specs.Check.{refusal_number}
 use Rattle.parser.specs.declared.Told.{Told}
-use Rattle.parser.specs.declared.Answer.{Answer}
-use Rattle.parser.specs.declared.Answer.TheVariants as answers
+use Rattle.parser.specs.declared.Reading.{Reading}
+use Rattle.parser.specs.declared.Refusal.{Refusal}
+use Rattle.parser.specs.declared.Refusal.TheVariants.{Unfit, CutOff}
 
 pub record Outcome : Type 0 where
   pub number : ℕ
@@ -18,10 +21,15 @@ pub record Outcome : Type 0 where
 abbrev pub unread : ℕ → List ℕ → List ℕ → List ℕ → Outcome
 unread number n e x = record { number = number; reads = 0; nodes = 0; errors = 0; expected = 0; records = n; faults = e; kinds = x }
 
+-- the document's number of a refusal
+abbrev pub number : Refusal → ℕ
+number (Unfit r) = refusal_number r
+number (CutOff r) = cut.number r
+
 -- an answer and what it leaves in the buffers: 0 for a reading with its counts, otherwise the refusal's number
-abbrev pub told : Answer → List ℕ → List ℕ → List ℕ → Outcome
-told (answers.Read r) n e x = record { number = 0; reads = r.reads; nodes = r.nodes; errors = r.errors; expected = r.expected; records = n; faults = e; kinds = x }
-told (answers.Refused k) n e x = unread k n e x
+abbrev pub told : Result Reading Refusal → List ℕ → List ℕ → List ℕ → Outcome
+told (Ok r) n e x = record { number = 0; reads = r.reads; nodes = r.nodes; errors = r.errors; expected = r.expected; records = n; faults = e; kinds = x }
+told (Err r) n e x = unread (number r) n e x
 
 -- the same of a number and counts apart
 abbrev pub apart : Told → List ℕ → List ℕ → List ℕ → Outcome

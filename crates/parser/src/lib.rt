@@ -1,35 +1,22 @@
 // The parser: `parse`, the function that a till calls, and the same with the counts apart, which the crate parser_c exports for C.
 #![tactic(auto)]
 
-ghost use Rattle.std.specs.Prelude.{◌≡◌, List, ℕ};
-ghost use Rattle.cursor.specs.Rule.{world, failed};
-ghost use Rattle.cursor.specs.Answers.{as_stop};
-ghost use Rattle.parser.specs.Blank.{up_to};
-ghost use Rattle.parser.specs.Outcome.{told, apart, handed};
-ghost use Rattle.parser.specs.Finish.{Numbered, trimmed, finished};
+ghost use Rattle.std.specs.Prelude.{◌≡◌, List, ℕ, Ok, Err};
+ghost use Rattle.cursor.specs.Rule.{failed};
+ghost use Rattle.cursor.specs.Answers.{stop_of, SameLoans};
+ghost use Rattle.parser.specs.Blank.{cleared, up_to};
+ghost use Rattle.parser.specs.Outcome.{number, told, apart, handed};
+ghost use Rattle.parser.specs.Finish.{IsRefusal, trimmed, finished};
 ghost use Rattle.parser.specs.Promised.{Promised, Delivered};
+ghost use Rattle.parser.specs.declared.Refusal.TheVariants.{Unfit, CutOff};
 
-use clear::{clear_bytes, clear_words};
-use cursor::{BEGIN, Built, Failure, Limits, State};
-use entry::{Entry, entry_check, refusal_number};
+pub use cursor::records::{ERROR_WORDS, NODE_WORDS};
+use cursor::{BEGIN, LIVE_ROOM, Limits, Parser, Sheet, Stop};
+use entry::{entry_check, refusal_number};
 use exprs::program::program;
-use parts::values::Left;
-
-mod clear;
-
-// The words of a node record and of an error record.
-pub const NODE_WORDS: usize = 8;
-
-pub const ERROR_WORDS: usize = 6;
 
 // How deep a sheet may nest.
 pub const DEPTH: u32 = 64;
-
-// The longest live list of expected kinds.
-const LIVE: usize = 1024;
-
-// No number of the document: for an end that never comes.
-const NEVER: u8 = 255;
 
 // What a reading reports: its readings, and how many node records, error records and expected kinds it left.
 #[derive(Clone, Copy)]
@@ -40,39 +27,77 @@ pub struct Reading {
     pub expected: u32,
 }
 
+// Why a sheet is not read: it is not fit to be read, or the reading was cut off.
 #[derive(Clone, Copy)]
-pub enum Answer {
-    Read(Reading),
-    Refused(u8),
+pub enum Refusal {
+    Unfit(entry::Refusal),
+    CutOff(cursor::Refusal),
+}
+
+impl Refusal {
+    // The number that the document gives it.
+    pub fn number(self) -> u8
+        ensures { result ≡ number self }
+    {
+        match self {
+            Refusal::Unfit(refusal) => refusal_number(refusal),
+            Refusal::CutOff(cursor::Refusal::NoRoom) => 7,
+            Refusal::CutOff(cursor::Refusal::ErrorsFull) => 8,
+            Refusal::CutOff(cursor::Refusal::TooDeep) => 9,
+            Refusal::CutOff(cursor::Refusal::AllSpent) => 10,
+            Refusal::CutOff(cursor::Refusal::ListFull) => 11,
+        }
+    }
+}
+
+impl From<entry::Refusal> for Refusal {
+    ghost from_gives = { λ refusal e. e ≡ Unfit refusal };
+
+    fn from(refusal: entry::Refusal) -> Refusal {
+        Refusal::Unfit(refusal)
+    }
+}
+
+// All words from a place on become the blank one.
+fn clear<T: Copy>(words: &mut [T], from: usize, blank: T)
+    ensures { words.new ≡ cleared blank from words.old }
+{
+    for i in from..words.len() {
+        words[i] = blank;
+    }
 }
 
 // Clears what lies past the counts.
-fn read(nodes: &mut [u32], errors: &mut [u32], expected: &mut [u8], s: State) -> Answer
-    ensures { told result nodes.new errors.new expected.new ≡ trimmed s nodes.old errors.old expected.old }
+fn read(p: &mut Parser<'_>) -> Reading
+    ensures read { told (Ok result) p.new.nodes.now p.new.errors.now p.new.expected.now ≡ trimmed p.old.state p.old.nodes.now p.old.errors.now p.old.expected.now }
+    ensures lent { SameLoans p.old p.new }
 {
-    clear_words(nodes, NODE_WORDS * s.nodes as usize);
-    clear_words(errors, ERROR_WORDS * s.errors as usize);
-    clear_bytes(expected, s.wanted as usize);
-    Answer::Read(Reading {
+    let s = p.state;
+    clear(p.nodes, NODE_WORDS * s.nodes as usize, 0);
+    clear(p.errors, ERROR_WORDS * s.errors as usize, 0);
+    clear(p.expected, s.wanted as usize, 0);
+    Reading {
         reads: s.reads,
         nodes: s.nodes,
         errors: s.errors,
         expected: s.wanted,
-    })
+    }
 }
 
-// Clears all, and tells the refusal's number. A program never ends in an error of its own, since its statements log theirs.
-fn refuse(nodes: &mut [u32], errors: &mut [u32], expected: &mut [u8], failure: Failure) -> Answer
-    requires { Numbered failure }
-    ensures { (l : List ℕ) → told result nodes.new errors.new expected.new ≡ finished (up_to 0 nodes.old) (up_to 0 errors.old) (up_to 0 expected.old) (failed (as_stop failure (world nodes.old errors.old expected.old l))) }
+// Clears all, and tells the refusal. A program never ends in an error of its own, since its statements log theirs.
+#[tactic(auto, unfolding(crate::specs::Finish::finished))]
+fn refuse(p: &mut Parser<'_>, stop: Stop) -> cursor::Refusal
+    requires { IsRefusal stop }
+    ensures refused { told (Err (CutOff result)) p.new.nodes.now p.new.errors.now p.new.expected.now ≡ finished (up_to 0 p.old.nodes.now) (up_to 0 p.old.errors.now) (up_to 0 p.old.expected.now) (failed (stop_of p.old stop)) }
+    ensures lent { SameLoans p.old p.new }
 {
-    clear_words(nodes, 0);
-    clear_words(errors, 0);
-    clear_bytes(expected, 0);
-    if failure.number == 0 {
-        return Answer::Refused(NEVER);
+    clear(p.nodes, 0, 0);
+    clear(p.errors, 0, 0);
+    clear(p.expected, 0, 0);
+    match stop {
+        Stop::Fault(_) => unreachable!(),
+        Stop::Refused(refusal) => refusal,
     }
-    Answer::Refused(failure.number as u8)
 }
 
 // Reads a sheet: text, tokens (kind, start, end, three words each) and the allowance of readings, into the buffers of node records, error
@@ -84,29 +109,29 @@ pub fn parse(
     nodes: &mut [u32],
     errors: &mut [u32],
     expected: &mut [u8],
-) -> Answer
+) -> Result<Reading, Refusal>
     ensures { Promised text.now tokens.now allowance nodes.old errors.old expected.old (told result nodes.new errors.new expected.new) }
 {
-    let fit = entry_check(text, tokens);
-    match fit {
-        Entry::Fit => {}
-        Entry::Refused(r) => return Answer::Refused(refusal_number(r)),
-    }
-    let mut live = [0u8; LIVE];
-    let left = Left {
+    entry_check(text, tokens)?;
+    let sheet = Sheet {
+        text,
+        tokens,
         limits: Limits { allowance },
-        depth: DEPTH,
     };
-    let got = program(
-        text, tokens, nodes, errors, expected, &mut live, left, BEGIN,
-    );
-    match got {
-        Built::Node(s, _) => read(nodes, errors, expected, s),
-        Built::Failed(f) => refuse(nodes, errors, expected, f),
+    let mut p = Parser {
+        nodes,
+        errors,
+        expected,
+        live: [0; LIVE_ROOM],
+        state: BEGIN,
+    };
+    match program(&mut p, &sheet, DEPTH) {
+        Ok(_) => Ok(read(&mut p)),
+        Err(stop) => Err(Refusal::CutOff(refuse(&mut p, stop))),
     }
 }
 
-// An answer's number and counts, apart.
+// An answer's number and counts, apart, as C takes them.
 #[derive(Clone, Copy)]
 struct Told {
     number: u8,
@@ -114,19 +139,22 @@ struct Told {
 }
 
 // The document's number of an answer, and its counts: zero for a refusal.
-fn number_of(answer: Answer) -> Told
+fn number_of(answer: Result<Reading, Refusal>) -> Told
     ensures { (n e x : List ℕ) → apart result n e x ≡ told answer n e x }
 {
     match answer {
-        Answer::Read(reading) => Told { number: 0, reading },
-        Answer::Refused(number) => {
+        Ok(reading) => Told { number: 0, reading },
+        Err(refusal) => {
             let reading = Reading {
                 reads: 0,
                 nodes: 0,
                 errors: 0,
                 expected: 0,
             };
-            Told { number, reading }
+            Told {
+                number: refusal.number(),
+                reading,
+            }
         }
     }
 }

@@ -7,9 +7,8 @@ use Rattle.kinds.specs.Number as kind
 use Rattle.cursor.specs.declared.State.{State}
 use Rattle.cursor.specs.declared.Kids.{Kids}
 use Rattle.cursor.specs.declared.Span.{Span}
-use Rattle.cursor.specs.declared.Ranged.{Ranged}
+use Rattle.cursor.specs.Sheet.{Sheet, range_at, Ranged}
 use Rattle.cursor.specs.Node as node
-use Rattle.cursor.specs.Sheet.{Sheet, range_at}
 use Rattle.cursor.specs.Rule.{World, Stop, done, failed, Rule}
 use Rattle.cursor.specs.Tokens.{start_of}
 use Rattle.cursor.specs.Checks.{expect}
@@ -23,12 +22,12 @@ use Rattle.types.proofs.TypePaths.{starts}
 use Rattle.parts.specs.Effects.{effect_record, effect_stmt}
 
 -- the record of an effect, and the statement's over it
-module _ (from inside : ℕ) (glo : Ranged) (name : ℕ) (i : Items) (link : ℕ) (s : State) (w : World) {kids : Kids} {w1 : World} {b : Bool} {flags : ℕ} (p : done s w1 kids ≡ add_some i.kids link s w) (ended : b ≡ is_ended i.ended) (f : flags ≡ flagged i.kids.count 0 b (ltb 0 link)) where
-  pub record-failed : {x : Stop} → close node.Effect inside 0 0 flags kids.first s w1 ≡ failed x → effect_record from inside glo name i link s w ≡ failed x
+module _ (from inside : ℕ) (glo : Ranged) (name : ℕ) (i : Items) (link : ℕ) (s : State) (w : World) {kids : Kids} {s1 : State} {w1 : World} {b : Bool} {flags : ℕ} (p : done s1 w1 kids ≡ add_some i.kids link s w) (ended : b ≡ is_ended i.ended) (f : flags ≡ flagged i.kids.count 0 b (ltb 0 link)) where
+  pub record-failed : {x : Stop} → close node.Effect inside 0 0 flags kids.first s1 w1 ≡ failed x → effect_record from inside glo name i link s w ≡ failed x
   unfolding effect_record
   record-failed q = rw (← p) (rw (← ended) (rw (← f) (rw q)))
 
-  pub record-on : {effect : ℕ} {s2 : State} {w2 w3 w4 : World} {one two : Kids} {mark : Span} {told : Bool} {words : ℕ} → close node.Effect inside 0 0 flags kids.first s w1 ≡ done s2 w2 effect → done s2 w3 one ≡ add no_kids name s2 w2 → done s2 w4 two ≡ add one effect s2 w3 → mark ≡ span_of glo → told ≡ is_ended glo → words ≡ flagged 0 0 told false → effect_record from inside glo name i link s w ≡ close node.ExprEffect from mark.start mark.end words two.first s2 w4
+  pub record-on : {effect : ℕ} {s2 s3 s4 : State} {w2 w3 w4 : World} {one two : Kids} {mark : Span} {told : Bool} {words : ℕ} → close node.Effect inside 0 0 flags kids.first s1 w1 ≡ done s2 w2 effect → done s3 w3 one ≡ add no_kids name s2 w2 → done s4 w4 two ≡ add one effect s3 w3 → mark ≡ span_of glo → told ≡ is_ended glo → words ≡ flagged 0 0 told false → effect_record from inside glo name i link s w ≡ close node.ExprEffect from mark.start mark.end words two.first s4 w4
   unfolding effect_record
   record-on q a c m t h = rw (← p) (rw (← ended) (rw (← f) (rw q (rw (← a) (rw (← c) (rw (h, t, m)))))))
 

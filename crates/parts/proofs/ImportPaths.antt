@@ -43,7 +43,7 @@ module _ (e : Sheet) (s : State) (w : World) {from : ℕ} (f : from ≡ start_of
       unfolding import_item
       item-lost r = rw (starts e s w f) (rw p (rw q (rw r)))
 
-      pub item-alias : {alias flags : ℕ} {one two : Kids} {s3 : State} {w3 w4 w5 : World} → ident e s2 w2 ≡ done s3 w3 alias → done s3 w4 one ≡ add no_kids name s3 w3 → done s3 w5 two ≡ add one alias s3 w4 → flags ≡ flagged 0 0 true false → import_item e s w ≡ close node.ImportItem from 0 0 flags two.first s3 w5
+      pub item-alias : {alias flags : ℕ} {one two : Kids} {s3 s4 s5 : State} {w3 w4 w5 : World} → ident e s2 w2 ≡ done s3 w3 alias → done s4 w4 one ≡ add no_kids name s3 w3 → done s5 w5 two ≡ add one alias s4 w4 → flags ≡ flagged 0 0 true false → import_item e s w ≡ close node.ImportItem from 0 0 flags two.first s5 w5
       unfolding import_item
       item-alias r a b c = rw (starts e s w f) (rw p (rw q (rw r (rw (← a) (rw (← b) (rw c))))))
 
@@ -77,7 +77,7 @@ module _ (e : Sheet) (kids : Kids) (s : State) (w : World) where
           unfolding import_simple import_alias
           end-lost r = rw (import-end-placed e kids) (rw p (rw (ne_eqb _ _ a) (rw (le-ltb _ _ b) (rw q (rw r)))))
 
-          pub end-alias : {alias : ℕ} {longer : Kids} {i : Imported} {s3 : State} {w3 w4 : World} → ident e s2 w2 ≡ done s3 w3 alias → done s3 w4 longer ≡ add kids alias s3 w3 → i ≡ imported longer kids.count 0 true false → import_end e kids s w ≡ done s3 w4 (stop i)
+          pub end-alias : {alias : ℕ} {longer : Kids} {i : Imported} {s3 s4 : State} {w3 w4 : World} → ident e s2 w2 ≡ done s3 w3 alias → done s4 w4 longer ≡ add kids alias s3 w3 → i ≡ imported longer kids.count 0 true false → import_end e kids s w ≡ done s4 w4 (stop i)
           unfolding import_simple import_alias
           end-alias r c d = rw (import-end-placed e kids) (rw p (rw (ne_eqb _ _ a) (rw (le-ltb _ _ b) (rw q (rw r (rw (← c) (rw d)))))))
 
@@ -110,16 +110,16 @@ module _ (e : Sheet) (kids : Kids) (s : State) (w : World) where
   unfolding path_turn
   path-failed p = rw p
 
-  module _ {name : ℕ} {longer : Kids} {s1 : State} {w1 w2 : World} (p : ident e s w ≡ done s1 w1 name) (a : done s1 w2 longer ≡ add kids name s1 w1) where
-    pub path-full : {x : Stop} → eat e kind.DoubleColon s1 w2 ≡ failed x → path_turn e (on_path kids) s w ≡ failed x
+  module _ {name : ℕ} {longer : Kids} {s1 t : State} {w1 w2 : World} (p : ident e s w ≡ done s1 w1 name) (a : done t w2 longer ≡ add kids name s1 w1) where
+    pub path-full : {x : Stop} → eat e kind.DoubleColon t w2 ≡ failed x → path_turn e (on_path kids) s w ≡ failed x
     unfolding path_turn
     path-full q = rw p (rw (← a) (rw q))
 
-    pub path-end : {s2 : State} {w3 : World} → eat e kind.DoubleColon s1 w2 ≡ done s2 w3 false → path_turn e (on_path kids) s w ≡ import_end e longer s2 w3
+    pub path-end : {s2 : State} {w3 : World} → eat e kind.DoubleColon t w2 ≡ done s2 w3 false → path_turn e (on_path kids) s w ≡ import_end e longer s2 w3
     unfolding path_turn
     path-end q = rw p (rw (← a) (rw q))
 
-    module _ {s2 : State} {w3 : World} (q : eat e kind.DoubleColon s1 w2 ≡ done s2 w3 true) where
+    module _ {s2 : State} {w3 : World} (q : eat e kind.DoubleColon t w2 ≡ done s2 w3 true) where
       pub path-lost : {x : Stop} → check e kind.Ident s2 w3 ≡ failed x → path_turn e (on_path kids) s w ≡ failed x
       unfolding path_turn
       path-lost r = rw p (rw (← a) (rw q (rw r)))

@@ -1,12 +1,11 @@
 -- What the rules of `import` keep, and that each name of a path takes a token.
+use Rattle.std.specs.Prelude.{Some, None}
 use mathlib.Core.Path.{refl}
 use Prim.Native.Nat.{ℕ}
 use Rattle.kinds.specs.Number as kind
 use Rattle.cursor.specs.declared.Kids.{Kids}
-use Rattle.cursor.specs.declared.Ranged.{Ranged}
-use Rattle.cursor.specs.declared.Ranged.TheVariants as ranged
+use Rattle.cursor.specs.Sheet.{Sheet, range_at, Ranged}
 use Rattle.cursor.specs.Node as node
-use Rattle.cursor.specs.Sheet.{Sheet, range_at}
 use Rattle.cursor.specs.Records.{no_kids}
 use Rattle.cursor.proofs.Loops.{Takes}
 use Rattle.cursor.proofs.Chosen.{all, ◌&◌}
@@ -27,8 +26,8 @@ unfolding ident ident_at
 ident-spends e = record { ends = λ s w. (by (range_at e.tokens s.at)).ends s w }
   where
     by : (r : Ranged) → Spends e Plain (ident_at e r)
-    by (ranged.At r) = first-spends (expect-spends kind.Ident refl) (λ _. plain (append-keeps _ 0))
-    by ranged.Nowhere = unexpected-spends
+    by (Some r) = first-spends (expect-spends kind.Ident refl) (λ _. plain (append-keeps _ 0))
+    by None = unexpected-spends
 
 -- a path whose row's last child may be linked on
 abbrev PathFor : Mark → Imported → Type 0

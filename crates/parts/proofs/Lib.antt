@@ -1,5 +1,6 @@
 pub mod AttemptPaths
 pub mod EffectPaths
+pub mod FormPlaces
 pub mod ImportPaths
 pub mod ImportTakes
 pub mod Placed
@@ -8,6 +9,5 @@ pub mod RecoveryPaths
 pub mod SkipTakes
 pub mod StepPaths
 pub mod StepTakes
-pub mod Told
 pub mod Unique
 pub mod UntilPaths

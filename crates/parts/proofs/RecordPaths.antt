@@ -1,19 +1,19 @@
 -- Each way through the records of expressions.
+use Rattle.std.specs.Prelude.{Result}
 use mathlib.Core.Path.{◌≡◌, refl, ap}
 use mathlib.Core.Bool.{Bool, true, false}
-use mathlib.Core.List.{[], ◌∷◌}
-use Prim.Native.Nat.{ℕ, zero, suc, ◌+◌, ◌<◌, ◌≤◌}
-use native.Mathlib.Omega.{arith}
-use lib.ListN.{get_or-eq_default}
+use Prim.Native.Nat.{ℕ, zero, suc}
 use lib.Dec.{ltb}
 use borrow.Author.Tests.{eq-eqb, ne_eqb}
+use Rattle.cursor.specs.declared.Parser.{Parser}
 use Rattle.cursor.specs.declared.State.{State}
+use Rattle.cursor.specs.declared.Stop as declared
 use Rattle.cursor.specs.declared.Kids.{Kids}
 use Rattle.cursor.specs.declared.Span.{Span}
-use Rattle.cursor.specs.declared.Ranged.{Ranged}
-use Rattle.cursor.specs.declared.Ranged.TheVariants as ranged
+use Rattle.cursor.specs.Sheet.{Ranged}
 use Rattle.cursor.specs.Node as node
 use Rattle.cursor.specs.Rule.{World, Stop, Out, done, failed, bind, more}
+use Rattle.cursor.specs.Answers.{ended}
 use Rattle.cursor.specs.Records.{add, reflag, no_kids, flagged}
 use Rattle.types.specs.declared.items.Items.{Items}
 use Rattle.types.specs.Items.{close, add_some, is_ended}
@@ -22,56 +22,12 @@ use Rattle.parts.specs.declared.values.Called.{Called}
 use Rattle.parts.specs.declared.values.Expr.{Expr}
 use Rattle.parts.specs.declared.values.Expr.TheVariants as exprs
 use Rattle.parts.specs.Forms as forms
-use Rattle.parts.specs.Members as members
-use Rattle.parts.specs.Members.{member_at}
-use Rattle.parts.specs.Values.{link_of, atom_expr, member_of, uncounted}
+use Rattle.parts.specs.Values.{link_of, member_of, uncounted}
 use Rattle.parts.specs.Records.{couple, row_record, list_record, wrapped, block_record, fn_record, function_record, handler_record, handlers_flagged, if_record, round_record, call_record, member_record}
 
 -- what goes on from an answer that is handed over, once it is told apart
-pub read_as : {A B C : Type 0} (f : A → World → Out B) {r v : A} (w : World) (k : State → World → B → Out C) → r ≡ v → bind (f r w) k ≡ bind (f v w) k
-read_as f w k p = ap (λ r. bind (f r w) k) p
-
--- an atom as an expression
-pub atom-name : (which link : ℕ) → which ≡ forms.Ident → atom_expr which link ≡ exprs.Name link
-atom-name which link p = rw (eq-eqb _ _ p, atom_expr)
-
-pub atom-other : (which link : ℕ) → (which ≡ forms.Ident → ⊥) → atom_expr which link ≡ exprs.Other link
-atom-other which link p = rw (ne_eqb _ _ p, atom_expr)
-
--- which member it is
-kinds-placed : (which : ℕ) → which ≤ 2 → (member_at which false ≡ which) × (member_at which true ≡ which + 3)
-kinds-placed zero h = (refl, refl)
-kinds-placed (suc zero) h = (refl, refl)
-kinds-placed (suc (suc zero)) h = (refl, refl)
-kinds-placed (suc (suc (suc which))) h = absurd (omega (arith, h))
-
-pub kind-none : (which : ℕ) (meta : Bool) → 2 < which → member_at which meta ≡ 0
-kind-none which false h = get_or-eq_default (members.Bracket ∷ members.Dot ∷ members.DoubleColon ∷ []) 0 h
-kind-none which true h = get_or-eq_default (members.BracketMeta ∷ members.DotMeta ∷ members.DoubleColonMeta ∷ []) 0 h
-
-module _ (which : ℕ) {meta : Bool} (h : which ≤ 2) where
-  pub kind-meta : meta ≡ true → member_at which meta ≡ which + 3
-  kind-meta p = rw p (kinds-placed which h).1
-
-  pub kind-property : meta ≡ false → member_at which meta ≡ which
-  kind-property p = rw p (kinds-placed which h).0
-
--- a member as an expression
-pub member-safe : (x : Expr) (link : ℕ) {safe : Ranged} {r : Span} → safe ≡ ranged.At r → member_of x safe link ≡ exprs.Other link
-member-safe x link p = rw p
-
-module _ {x : Expr} {safe : Ranged} (link : ℕ) (p : safe ≡ ranged.Nowhere) where
-  pub member-name : {n : ℕ} → x ≡ exprs.Name n → member_of x safe link ≡ exprs.NameMember link
-  member-name q = rw (p, q)
-
-  pub member-member : {n : ℕ} → x ≡ exprs.NameMember n → member_of x safe link ≡ exprs.Other link
-  member-member q = rw (p, q)
-
-  pub member-call : {n : ℕ} {called : Called} → x ≡ exprs.Call n called → member_of x safe link ≡ exprs.Other link
-  member-call q = rw (p, q)
-
-  pub member-other : {n : ℕ} → x ≡ exprs.Other n → member_of x safe link ≡ exprs.Other link
-  member-other q = rw (p, q)
+pub handed : {A B : Type 0} (p : Parser) (k : State → World → A → Out B) {r v : Result A declared.Stop} → r ≡ v → bind (ended p r) k ≡ bind (ended p v) k
+handed p k q = ap (λ r. bind (ended p r) k) q
 
 -- a block without a record over it is as its own record is
 pub block-alone : (o : Out ℕ) (inside wrap from : ℕ) (row : Kids) (s : State) (w : World) {flags : ℕ} → flags ≡ flagged row.count 0 false false → wrap ≡ 0 → o ≡ close node.Block inside 0 0 flags row.first s w → block_record inside wrap from row s w ≡ o
@@ -86,11 +42,11 @@ wrapped-on zero from link s w p = absurd (p refl)
 wrapped-on (suc k) from link s w p = refl
 
 module _ (s : State) (w : World) where
-  pub couple-on : (k from word a b : ℕ) {one two : Kids} {w1 w2 : World} → done s w1 one ≡ add no_kids a s w → done s w2 two ≡ add one b s w1 → couple k from word a b s w ≡ close k from word 0 0 two.first s w2
+  pub couple-on : (k from word a b : ℕ) {one two : Kids} {s1 s2 : State} {w1 w2 : World} → done s1 w1 one ≡ add no_kids a s w → done s2 w2 two ≡ add one b s1 w1 → couple k from word a b s w ≡ close k from word 0 0 two.first s2 w2
   unfolding couple
   couple-on k from word a b p q = rw (← p) (rw (← q))
 
-  pub row_on : (k from link : ℕ) (kids : Kids) {flags : ℕ} {all : Kids} {w1 : World} → flags ≡ flagged kids.count 0 false false → done s w1 all ≡ add kids link s w → row_record k from kids link s w ≡ close k from 0 0 flags all.first s w1
+  pub row_on : (k from link : ℕ) (kids : Kids) {flags : ℕ} {all : Kids} {s1 : State} {w1 : World} → flags ≡ flagged kids.count 0 false false → done s1 w1 all ≡ add kids link s w → row_record k from kids link s w ≡ close k from 0 0 flags all.first s1 w1
   unfolding row_record
   row_on k from link kids f p = rw (← p) (rw f)
 
@@ -107,21 +63,21 @@ module _ (s : State) (w : World) where
     unfolding block_record
     block-wrapped n p = rw (← f) (rw p (wrapped-on _ _ _ _ _ n))
 
-  pub fn-on : (from : ℕ) (glo : Ranged) (name link : ℕ) {one two : Kids} {w1 w2 : World} {mark : Span} {b : Bool} {flags : ℕ} → done s w1 one ≡ add_some no_kids name s w → done s w2 two ≡ add one link s w1 → mark ≡ span_of glo → b ≡ is_ended glo → flags ≡ flagged 0 0 b (ltb 0 name) → fn_record from glo name link s w ≡ close node.Fn from mark.start mark.end flags two.first s w2
+  pub fn-on : (from : ℕ) (glo : Ranged) (name link : ℕ) {one two : Kids} {s1 s2 : State} {w1 w2 : World} {mark : Span} {b : Bool} {flags : ℕ} → done s1 w1 one ≡ add_some no_kids name s w → done s2 w2 two ≡ add one link s1 w1 → mark ≡ span_of glo → b ≡ is_ended glo → flags ≡ flagged 0 0 b (ltb 0 name) → fn_record from glo name link s w ≡ close node.Fn from mark.start mark.end flags two.first s2 w2
   unfolding fn_record
   fn-on from glo name link p q m b f = rw (← p) (rw (← q) (rw (f, b, m)))
 
   module _ (from : ℕ) (i : Items) {b : Bool} (ended : b ≡ is_ended i.ended) where
-    module _ (closure : Bool) (link body : ℕ) {flags : ℕ} {one two : Kids} {w1 w2 : World} (f : flags ≡ flagged i.kids.count 0 b (ltb 0 link)) (p : done s w1 one ≡ add_some i.kids link s w) (q : done s w2 two ≡ add one body s w1) where
-      pub closure-on : closure ≡ true → function_record from closure i link body s w ≡ close node.Closure from 0 0 flags two.first s w2
+    module _ (closure : Bool) (link body : ℕ) {flags : ℕ} {one two : Kids} {s1 s2 : State} {w1 w2 : World} (f : flags ≡ flagged i.kids.count 0 b (ltb 0 link)) (p : done s1 w1 one ≡ add_some i.kids link s w) (q : done s2 w2 two ≡ add one body s1 w1) where
+      pub closure-on : closure ≡ true → function_record from closure i link body s w ≡ close node.Closure from 0 0 flags two.first s2 w2
       unfolding function_record
       closure-on c = rw (c, ← p) (rw (← q) (rw (f, ended)))
 
-      pub function-on : closure ≡ false → function_record from closure i link body s w ≡ close node.Function from 0 0 flags two.first s w2
+      pub function-on : closure ≡ false → function_record from closure i link body s w ≡ close node.Function from 0 0 flags two.first s2 w2
       unfolding function_record
       function-on c = rw (c, ← p) (rw (← q) (rw (f, ended)))
 
-    pub handler-on : (body : ℕ) {flags : ℕ} {all : Kids} {w1 : World} → flags ≡ flagged i.kids.count 0 b false → done s w1 all ≡ add i.kids body s w → handler_record from i body s w ≡ close node.EffectHandler from 0 0 flags all.first s w1
+    pub handler-on : (body : ℕ) {flags : ℕ} {all : Kids} {s1 : State} {w1 : World} → flags ≡ flagged i.kids.count 0 b false → done s1 w1 all ≡ add i.kids body s w → handler_record from i body s w ≡ close node.EffectHandler from 0 0 flags all.first s1 w1
     unfolding handler_record
     handler-on body f p = rw (← p) (rw (f, ended))
 
@@ -129,7 +85,7 @@ module _ (s : State) (w : World) where
   unfolding handlers_flagged
   handlers-on link called handlers f = rw f
 
-  pub if-on : (from : ℕ) (kids : Kids) (link : ℕ) {flags : ℕ} {all : Kids} {w1 : World} → flags ≡ flagged 0 0 (ltb 0 link) false → done s w1 all ≡ add_some kids link s w → if_record from kids link s w ≡ close node.If from 0 0 flags all.first s w1
+  pub if-on : (from : ℕ) (kids : Kids) (link : ℕ) {flags : ℕ} {all : Kids} {s1 : State} {w1 : World} → flags ≡ flagged 0 0 (ltb 0 link) false → done s1 w1 all ≡ add_some kids link s w → if_record from kids link s w ≡ close node.If from 0 0 flags all.first s1 w1
   unfolding if_record
   if-on from kids link f p = rw (← p) (rw f)
 
@@ -142,20 +98,20 @@ module _ (s : State) (w : World) where
     unfolding round_record
     round-for p f = rw (ne_eqb _ _ p, round_record) (rw f)
 
-  module _ (from : ℕ) (kids : Kids) (lambda : ℕ) {flags : ℕ} {all : Kids} {w1 : World} (f : flags ≡ flagged kids.count 0 (ltb 0 lambda) false) (p : done s w1 all ≡ add_some kids lambda s w) where
-    pub call-failed : {x : Stop} → close node.Call from 0 0 flags all.first s w1 ≡ failed x → call_record from kids lambda s w ≡ failed x
+  module _ (from : ℕ) (kids : Kids) (lambda : ℕ) {flags : ℕ} {all : Kids} {s1 : State} {w1 : World} (f : flags ≡ flagged kids.count 0 (ltb 0 lambda) false) (p : done s1 w1 all ≡ add_some kids lambda s w) where
+    pub call-failed : {x : Stop} → close node.Call from 0 0 flags all.first s1 w1 ≡ failed x → call_record from kids lambda s w ≡ failed x
     unfolding call_record
     call-failed q = rw (← p) (rw (← f) (rw q))
 
-    pub call-on : {link : ℕ} {s2 : State} {w2 : World} → close node.Call from 0 0 flags all.first s w1 ≡ done s2 w2 link → call_record from kids lambda s w ≡ done s2 w2 (more (exprs.Call link (record { kids = uncounted all; arguments = kids.count; lambda = ltb 0 lambda })))
+    pub call-on : {link : ℕ} {s2 : State} {w2 : World} → close node.Call from 0 0 flags all.first s1 w1 ≡ done s2 w2 link → call_record from kids lambda s w ≡ done s2 w2 (more (exprs.Call link (record { kids = uncounted all; arguments = kids.count; lambda = ltb 0 lambda })))
     unfolding call_record
     call-on q = rw (← p) (rw (← f) (rw q))
 
-  module _ (from : ℕ) (safe : Ranged) (member : ℕ) (x : Expr) (link : ℕ) {table which-kind flags : ℕ} {one all : Kids} {w1 w2 : World} {mark : Span} {b : Bool} (t : table ≡ link_of x) (p : done s w1 one ≡ add no_kids table s w) (q : done s w2 all ≡ add_some one link s w1) (m : mark ≡ span_of safe) (n : which-kind ≡ member) (ended : b ≡ is_ended safe) (f : flags ≡ flagged which-kind 0 b false) where
-    pub member-failed : {y : Stop} → close node.Member from mark.start mark.end flags all.first s w2 ≡ failed y → member_record from safe member x link s w ≡ failed y
+  module _ (from : ℕ) (safe : Ranged) (member : ℕ) (x : Expr) (link : ℕ) {table which-kind flags : ℕ} {one all : Kids} {s1 s2 : State} {w1 w2 : World} {mark : Span} {b : Bool} (t : table ≡ link_of x) (p : done s1 w1 one ≡ add no_kids table s w) (q : done s2 w2 all ≡ add_some one link s1 w1) (m : mark ≡ span_of safe) (n : which-kind ≡ member) (ended : b ≡ is_ended safe) (f : flags ≡ flagged which-kind 0 b false) where
+    pub member-failed : {y : Stop} → close node.Member from mark.start mark.end flags all.first s2 w2 ≡ failed y → member_record from safe member x link s w ≡ failed y
     unfolding member_record
     member-failed r = rw (← t, ← p) (rw (← q) (rw (← m, ← n, ← ended) (rw (← f) (rw r))))
 
-    pub member-on : {l : ℕ} {y : Expr} {s3 : State} {w3 : World} → close node.Member from mark.start mark.end flags all.first s w2 ≡ done s3 w3 l → y ≡ member_of x safe l → member_record from safe member x link s w ≡ done s3 w3 (more y)
+    pub member-on : {l : ℕ} {y : Expr} {s3 : State} {w3 : World} → close node.Member from mark.start mark.end flags all.first s2 w2 ≡ done s3 w3 l → y ≡ member_of x safe l → member_record from safe member x link s w ≡ done s3 w3 (more y)
     unfolding member_record
     member-on r y = rw (← t, ← p) (rw (← q) (rw (← m, ← n, ← ended) (rw (← f) (rw r (rw y)))))

@@ -1,4 +1,5 @@
 -- Each way through an undone attempt, through recovery, and through what follows a statement.
+use Rattle.std.specs.Prelude.{Result, Err}
 use mathlib.Core.Path.{◌≡◌, refl, ap, ◌∙◌}
 use mathlib.Core.Bool.{true, false}
 use mathlib.Core.List.{[], ◌∷◌}
@@ -8,29 +9,20 @@ use Rattle.kinds.specs.Number as kind
 use Rattle.cursor.specs.declared.State.{State}
 use Rattle.cursor.specs.declared.Kids.{Kids}
 use Rattle.cursor.specs.declared.Fault.{Fault}
-use Rattle.cursor.specs.declared.Failure.{Failure}
+use Rattle.cursor.specs.declared.Stop as declared
 use Rattle.cursor.specs.Sheet.{Sheet}
-use Rattle.cursor.specs.Rule.{World, Stop, fault, Out, done, failed, more, stop, iterate}
-use Rattle.cursor.specs.Tokens.{bump, eat_eol, rewind}
+use Rattle.cursor.specs.Rule.{World, Stop, fault, refused, Out, done, failed, more, stop, iterate}
+use Rattle.cursor.specs.Tokens.{bump, eat_eol}
 use Rattle.cursor.specs.Checks.{check, eat, expect, pick, unexpected_at}
 use Rattle.cursor.specs.Records.{log}
 use Rattle.cursor.specs.Attempts.{unbuilt, recover}
-use Rattle.cursor.specs.Answers.{as_stop}
-use Rattle.cursor.proofs.Failures.{an-error, a-refusal}
 use Rattle.types.specs.Items.{add_some}
-use Rattle.parts.specs.Recovery.{undone, skip_turn, skip, skipped, recovering, log_here, line_end, after_stmt}
+use Rattle.parts.specs.Recovery.{skip_turn, skip, skipped, recovering, log_here, line_end, after_stmt}
 use Rattle.parts.proofs.Placed.{skip-turn-placed}
 
--- a rule that failed by an error
-pub stopped : {A : Type 0} {o : Out A} (w : World) {f : Failure} → o ≡ failed (as_stop f w) → f.number ≤ 0 → o ≡ failed (fault f.state w f.fault)
-stopped w {f} p h = p ∙ ap failed (an-error f w h)
-
-module _ (mark : State) (w : World) (lost : Failure) where
-  pub undone-fault : {back : State} → lost.number ≤ 0 → back ≡ rewind mark lost.state → undone mark (as_stop lost w) ≡ done back w tt
-  undone-fault h q = rw (an-error lost w h) (rw q)
-
-  pub undone-refused : 0 < lost.number → undone mark (as_stop lost w) ≡ failed (as_stop lost w)
-  undone-refused h = rw (a-refusal lost w h)
+-- an error, told apart in two steps
+pub told-apart : {A : Type 0} {r : Result A declared.Stop} {x y : declared.Stop} → r ≡ Err x → x ≡ y → r ≡ Err y
+told-apart p q = p ∙ ap (λ z. Err z) q
 
 module _ (e : Sheet) (end : ℕ) (s : State) (w : World) where
   pub skip_is : skip e end s w ≡ iterate e (skip_turn e end) tt s w
@@ -64,9 +56,9 @@ module _ (e : Sheet) (end : ℕ) (mark : State) {o : Out ℕ} where
   unfolding recovering
   recovering-node p = rw p
 
-  pub recovering-refused : (f : Failure) (w : World) → o ≡ failed (as_stop f w) → 0 < f.number → recovering e end mark o ≡ failed (as_stop f w)
+  pub recovering-refused : {n : ℕ} → o ≡ failed (refused n) → recovering e end mark o ≡ failed (refused n)
   unfolding recovering
-  recovering-refused f w p h = rw p (rw (a-refusal f w h))
+  recovering-refused p = rw p
 
   module _ {s back : State} {w : World} {f : Fault} (p : o ≡ failed (fault s w f)) (q : back ≡ unbuilt mark s) where
     pub recovering-full : {x : Stop} → log f back w ≡ failed x → recovering e end mark o ≡ failed x
@@ -88,9 +80,9 @@ module _ (e : Sheet) (s : State) (w : World) where
   unfolding line_end recover
   line-there p = rw p
 
-  pub line_refused : (f : Failure) (v : World) → expect e kind.Eol s w ≡ failed (as_stop f v) → 0 < f.number → line_end e s w ≡ failed (as_stop f v)
+  pub line_refused : {n : ℕ} → expect e kind.Eol s w ≡ failed (refused n) → line_end e s w ≡ failed (refused n)
   unfolding line_end recover
-  line_refused f v p h = rw p (rw (a-refusal f v h))
+  line_refused p = rw p
 
   -- where it is missing the line ends as its logging does
   pub line-missing : (o : Out Unit) {s1 back : State} {w1 : World} {f : Fault} → expect e kind.Eol s w ≡ failed (fault s1 w1 f) → back ≡ unbuilt s s1 → o ≡ log f back w1 → line_end e s w ≡ o
@@ -104,7 +96,7 @@ module _ (e : Sheet) (end : ℕ) (kids : Kids) (link : ℕ) (s : State) (w : Wor
   unfolding after_stmt
   after-full p = rw p
 
-  pub after-closed : {all : Kids} {s1 : State} {w1 w2 : World} → eat e end s w ≡ done s1 w1 true → done s1 w2 all ≡ add_some kids link s1 w1 → after_stmt e end kids link s w ≡ done s1 w2 (stop all)
+  pub after-closed : {all : Kids} {s1 s2 : State} {w1 w2 : World} → eat e end s w ≡ done s1 w1 true → done s2 w2 all ≡ add_some kids link s1 w1 → after_stmt e end kids link s w ≡ done s2 w2 (stop all)
   unfolding after_stmt
   after-closed p q = rw p (rw (← q))
 
@@ -118,7 +110,7 @@ module _ (e : Sheet) (end : ℕ) (kids : Kids) (link : ℕ) (s : State) (w : Wor
       unfolding after_stmt
       after-unlogged r = rw p (rw q (rw (log-here e s2 w2 u) (rw r)))
 
-      pub after-over : {all : Kids} {s3 : State} {w3 w4 : World} → log f s2 w2 ≡ done s3 w3 tt → done s3 w4 all ≡ add_some kids link s3 w3 → after_stmt e end kids link s w ≡ done s3 w4 (stop all)
+      pub after-over : {all : Kids} {s3 s4 : State} {w3 w4 : World} → log f s2 w2 ≡ done s3 w3 tt → done s4 w4 all ≡ add_some kids link s3 w3 → after_stmt e end kids link s w ≡ done s4 w4 (stop all)
       unfolding after_stmt
       after-over r a = rw p (rw q (rw (log-here e s2 w2 u) (rw r (rw (← a)))))
 
@@ -132,6 +124,6 @@ module _ (e : Sheet) (end : ℕ) (kids : Kids) (link : ℕ) (s : State) (w : Wor
         unfolding after_stmt
         after-spent a = rw p (rw q (rw r (rw a)))
 
-        pub after_more : {longer : Kids} {s4 : State} {w4 w5 : World} → eat_eol e s3 w3 ≡ done s4 w4 tt → done s4 w5 longer ≡ add_some kids link s4 w4 → after_stmt e end kids link s w ≡ done s4 w5 (more longer)
+        pub after_more : {longer : Kids} {s4 s5 : State} {w4 w5 : World} → eat_eol e s3 w3 ≡ done s4 w4 tt → done s5 w5 longer ≡ add_some kids link s4 w4 → after_stmt e end kids link s w ≡ done s5 w5 (more longer)
         unfolding after_stmt
         after_more a b = rw p (rw q (rw r (rw a (rw (← b)))))

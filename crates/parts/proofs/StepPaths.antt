@@ -1,4 +1,5 @@
 -- Each way through the steps of the rules on expressions that lead back to no expression.
+use Rattle.std.specs.Prelude.{Some, None}
 use mathlib.Core.Path.{◌≡◌, refl}
 use mathlib.Core.List.{List}
 use mathlib.Core.Bool.{Bool, true, false}
@@ -6,19 +7,13 @@ use Prim.Native.Nat.{ℕ, ◌<◌, ◌≤◌}
 use borrow.Author.Tests.{eq-eqb, ne_eqb, lt-ltb, le-ltb}
 use Rattle.kinds.specs.Number as kind
 use Rattle.kinds.specs.Text.{part}
-use Rattle.kinds.specs.declared.operator.BinOp.{BinOp}
-use Rattle.kinds.specs.declared.operator.Operator.TheVariants as operators
-use Rattle.kinds.specs.Operators.{compound_of, op_kind}
 use Rattle.kinds.specs.declared.types.ValueType.{ValueType}
-use Rattle.kinds.specs.declared.types.TypeWord.TheVariants as words
 use Rattle.kinds.specs.TypeWords.{type_word, type_number}
 use Rattle.cursor.specs.declared.State.{State}
 use Rattle.cursor.specs.declared.Kids.{Kids}
 use Rattle.cursor.specs.declared.Span.{Span}
-use Rattle.cursor.specs.declared.Ranged.{Ranged}
-use Rattle.cursor.specs.declared.Ranged.TheVariants as ranged
+use Rattle.cursor.specs.Sheet.{Sheet, kind_at, range_at, Ranged}
 use Rattle.cursor.specs.Node as node
-use Rattle.cursor.specs.Sheet.{Sheet, kind_at, range_at}
 use Rattle.cursor.specs.Rule.{World, Stop, fault, done, failed, Rule, more, stop, iterate}
 use Rattle.cursor.specs.Tokens.{bump}
 use Rattle.cursor.specs.Checks.{check, eat, expect, unexpected_at, unexpected}
@@ -26,34 +21,11 @@ use Rattle.cursor.specs.Records.{append, add, no_kids}
 use Rattle.types.specs.Lits.{lit, ident}
 use Rattle.types.specs.Items.{close, is_ended}
 use Rattle.types.specs.Types.{params, closure_params}
-use Rattle.parts.specs.declared.values.Called.{Called}
 use Rattle.parts.specs.declared.values.Expr.{Expr}
 use Rattle.parts.specs.declared.values.Expr.TheVariants as exprs
-use Rattle.parts.specs.declared.values.AssignLeft.TheVariants as assigns
-use Rattle.parts.specs.declared.steps.Checked.TheVariants as checked
 use Rattle.parts.specs.Forms as forms
-use Rattle.parts.specs.Values.{link_of, to_assign_left}
-use Rattle.parts.specs.Steps.{operator_of, items_end, checked_type, any_params, braced, no_member, pound, meta_end, lit_key, paren_key_at, paren_key, leaf, name_turn, names, loop_names, pattern_turn, case_patterns, type_checked, type_check_at, type_check}
-
--- what may be assigned to
-pub assign-name : {x : Expr} {link : ℕ} → x ≡ exprs.Name link → to_assign_left x ≡ assigns.To link
-assign-name p = rw p
-
-pub assign-member : {x : Expr} {link : ℕ} → x ≡ exprs.NameMember link → to_assign_left x ≡ assigns.To link
-assign-member p = rw p
-
-pub assign-call : {x : Expr} {link : ℕ} {called : Called} → x ≡ exprs.Call link called → to_assign_left x ≡ assigns.Nothing
-assign-call p = rw p
-
-pub assign_other : {x : Expr} {link : ℕ} → x ≡ exprs.Other link → to_assign_left x ≡ assigns.Nothing
-assign_other p = rw p
-
--- the operator of a compound assignment
-pub operator-some : (sign : ℕ) {op : BinOp} {k : ℕ} → operators.Binary op ≡ compound_of sign → k ≡ op_kind op → operator_of sign ≡ k
-operator-some sign p q = rw (← p, q)
-
-pub operator-none : (sign : ℕ) → operators.Nothing ≡ compound_of sign → operator_of sign ≡ 0
-operator-none sign p = rw (← p)
+use Rattle.parts.specs.Values.{link_of}
+use Rattle.parts.specs.Steps.{items_end, checked_type, any_params, braced, no_member, pound, meta_end, lit_key, paren_key_at, paren_key, leaf, name_turn, names, loop_names, pattern_turn, case_patterns, type_checked, type_check_at, type_check}
 
 -- how lists end
 module _ (k : ℕ) where
@@ -71,20 +43,20 @@ module _ (k : ℕ) where
 
 -- the type that a token names after `is`
 module _ (text : List ℕ) (k : ℕ) (r : Span) where
-  pub checked-null : k ≡ kind.Null → checked_type text k r ≡ checked.Type 0
+  pub checked-null : k ≡ kind.Null → checked_type text k r ≡ Some 0
   unfolding checked_type
   checked-null p = rw (eq-eqb _ _ p, checked_type)
 
   module _ (n : k ≡ kind.Null → ⊥) where
-    pub checked-other : (k ≡ kind.Ident → ⊥) → checked_type text k r ≡ checked.Unknown
+    pub checked-other : (k ≡ kind.Ident → ⊥) → checked_type text k r ≡ None
     unfolding checked_type
     checked-other p = rw (ne_eqb _ _ n, checked_type) (rw (ne_eqb _ _ p))
 
-    pub checked-word : {v : ValueType} {m : ℕ} → k ≡ kind.Ident → words.Known v ≡ type_word (part text r.start r.end) → m ≡ type_number v → checked_type text k r ≡ checked.Type m
+    pub checked-word : {v : ValueType} {m : ℕ} → k ≡ kind.Ident → Some v ≡ type_word (part text r.start r.end) → m ≡ type_number v → checked_type text k r ≡ Some m
     unfolding checked_type
     checked-word p q m = rw (ne_eqb _ _ n, checked_type) (rw (eq-eqb _ _ p) (rw (← q, m)))
 
-    pub checked-strange : k ≡ kind.Ident → words.Unknown ≡ type_word (part text r.start r.end) → checked_type text k r ≡ checked.Unknown
+    pub checked-strange : k ≡ kind.Ident → None ≡ type_word (part text r.start r.end) → checked_type text k r ≡ None
     unfolding checked_type
     checked-strange p q = rw (ne_eqb _ _ n, checked_type) (rw (eq-eqb _ _ p) (rw (← q)))
 
@@ -194,16 +166,16 @@ module _ (e : Sheet) (s : State) (w : World) where
     unfolding name_turn
     name-failed p = rw p
 
-    module _ {link : ℕ} {longer : Kids} {s1 : State} {w1 w2 : World} (p : ident e s w ≡ done s1 w1 link) (a : done s1 w2 longer ≡ add kids link s1 w1) where
-      pub name-full : {x : Stop} → eat e kind.Comma s1 w2 ≡ failed x → name_turn e kids s w ≡ failed x
+    module _ {link : ℕ} {longer : Kids} {s1 t : State} {w1 w2 : World} (p : ident e s w ≡ done s1 w1 link) (a : done t w2 longer ≡ add kids link s1 w1) where
+      pub name-full : {x : Stop} → eat e kind.Comma t w2 ≡ failed x → name_turn e kids s w ≡ failed x
       unfolding name_turn
       name-full q = rw p (rw (← a) (rw q))
 
-      pub name-stop : {s2 : State} {w3 : World} → eat e kind.Comma s1 w2 ≡ done s2 w3 false → name_turn e kids s w ≡ done s2 w3 (stop longer)
+      pub name-stop : {s2 : State} {w3 : World} → eat e kind.Comma t w2 ≡ done s2 w3 false → name_turn e kids s w ≡ done s2 w3 (stop longer)
       unfolding name_turn
       name-stop q = rw p (rw (← a) (rw q))
 
-      pub name-more : {s2 : State} {w3 : World} → eat e kind.Comma s1 w2 ≡ done s2 w3 true → name_turn e kids s w ≡ done s2 w3 (more longer)
+      pub name-more : {s2 : State} {w3 : World} → eat e kind.Comma t w2 ≡ done s2 w3 true → name_turn e kids s w ≡ done s2 w3 (more longer)
       unfolding name_turn
       name-more q = rw p (rw (← a) (rw q))
 
@@ -238,16 +210,16 @@ module _ (e : Sheet) (s : State) (w : World) where
       unfolding pattern_turn
       case-failed p = rw p
 
-      module _ {link : ℕ} {longer : Kids} {s1 : State} {w1 w2 : World} (p : pattern s w ≡ done s1 w1 link) (a : done s1 w2 longer ≡ add kids link s1 w1) where
-        pub case_full : {x : Stop} → eat e kind.VBar s1 w2 ≡ failed x → pattern_turn e pattern kids s w ≡ failed x
+      module _ {link : ℕ} {longer : Kids} {s1 t : State} {w1 w2 : World} (p : pattern s w ≡ done s1 w1 link) (a : done t w2 longer ≡ add kids link s1 w1) where
+        pub case_full : {x : Stop} → eat e kind.VBar t w2 ≡ failed x → pattern_turn e pattern kids s w ≡ failed x
         unfolding pattern_turn
         case_full q = rw p (rw (← a) (rw q))
 
-        pub case-stop : {s2 : State} {w3 : World} → eat e kind.VBar s1 w2 ≡ done s2 w3 false → pattern_turn e pattern kids s w ≡ done s2 w3 (stop longer)
+        pub case-stop : {s2 : State} {w3 : World} → eat e kind.VBar t w2 ≡ done s2 w3 false → pattern_turn e pattern kids s w ≡ done s2 w3 (stop longer)
         unfolding pattern_turn
         case-stop q = rw p (rw (← a) (rw q))
 
-        pub case-more : {s2 : State} {w3 : World} → eat e kind.VBar s1 w2 ≡ done s2 w3 true → pattern_turn e pattern kids s w ≡ done s2 w3 (more longer)
+        pub case-more : {s2 : State} {w3 : World} → eat e kind.VBar t w2 ≡ done s2 w3 true → pattern_turn e pattern kids s w ≡ done s2 w3 (more longer)
         unfolding pattern_turn
         case-more q = rw p (rw (← a) (rw q))
 
@@ -257,15 +229,15 @@ module _ (e : Sheet) (s : State) (w : World) where
 
   -- behind `is`
   module _ (from : ℕ) (x : Expr) where
-    pub type-out : range_at e.tokens s.at ≡ ranged.Nowhere → type_check e from x s w ≡ failed (fault s w (unexpected_at e s))
+    pub type-out : range_at e.tokens s.at ≡ None → type_check e from x s w ≡ failed (fault s w (unexpected_at e s))
     unfolding type_check type_check_at unexpected
     type-out p = rw (p, type_check, type_check_at)
 
-    pub type-none : {k : ℕ} {r : Span} → range_at e.tokens s.at ≡ ranged.At r → k ≡ kind_at e.tokens s.at → checked.Unknown ≡ checked_type e.text k r → type_check e from x s w ≡ failed (fault s w (unexpected_at e s))
+    pub type-none : {k : ℕ} {r : Span} → range_at e.tokens s.at ≡ Some r → k ≡ kind_at e.tokens s.at → None ≡ checked_type e.text k r → type_check e from x s w ≡ failed (fault s w (unexpected_at e s))
     unfolding type_check type_check_at type_checked unexpected
     type-none p k q = rw (p, ← k, type_check, type_check_at) (rw (← q, type_checked))
 
-    module _ {k n : ℕ} {r : Span} (p : range_at e.tokens s.at ≡ ranged.At r) (h : k ≡ kind_at e.tokens s.at) (q : checked.Type n ≡ checked_type e.text k r) where
+    module _ {k n : ℕ} {r : Span} (p : range_at e.tokens s.at ≡ Some r) (h : k ≡ kind_at e.tokens s.at) (q : Some n ≡ checked_type e.text k r) where
       pub type-spent : {y : Stop} → bump e s w ≡ failed y → type_check e from x s w ≡ failed y
       unfolding type_check type_check_at type_checked
       type-spent b = rw (p, ← h, type_check, type_check_at) (rw (← q, type_checked) (rw b))

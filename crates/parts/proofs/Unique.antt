@@ -1,17 +1,23 @@
 -- No second answer satisfies a contract: of each public function, two answers that its `ensures` admits for the same arguments are one, and so
--- is what they leave in the lent buffers, unless the whole reading was refused (cursor's Told). `Post` is the contract as the check reads it
--- from the source; a contract that holds for all contents of the buffers that a function does not see is used at empty ones.
+-- is where the parser stands and what it holds, unless the whole reading was refused (cursor's Told). `Post` is the contract as the check reads it
+-- from the source.
 -- Assumes nothing.
-use Rattle.std.proofs.Common.{◌≡◌, ℕ, List, [], sym, ap, ◌∙◌}
-use Rattle.cursor.specs.declared.State.{State}
-use Rattle.cursor.specs.declared.Limits.{Limits}
-use Rattle.cursor.specs.Rule.{World, world, Out}
-use Rattle.cursor.specs.Answers.{as_test, as_built}
-use Rattle.cursor.proofs.Told.{Settled, held_by, Told, one, moved, tested, built}
-use Rattle.types.specs.Answers.{as_listed}
-use Rattle.types.proofs.Unique.{listed}
-use Rattle.parts.specs.Answers.{as_chained, as_rowed, as_kids_turned, as_asked, as_pounded}
-use Rattle.parts.proofs.Told.{chained, rowed, kids_turned, asked, pounded}
+use Rattle.std.specs.Prelude.{Result, Option, Some, None}
+use Rattle.std.specs.declared.ops.ControlFlow.{ControlFlow}
+use Rattle.std.proofs.Common.{◌≡◌, ℕ, ◌<◌, refl, sym, ap, ◌∙◌, arith}
+use Rattle.cursor.specs.declared.Parser.{Parser}
+use Rattle.cursor.specs.declared.Stop.{Stop}
+use Rattle.cursor.specs.Answers.{ended}
+use Rattle.cursor.proofs.Told.{Settled, Same, One, one, alike, Apart, one_turn}
+use Rattle.parts.specs.Answers.{as_turn}
+use Rattle.parts.specs.declared.forms.Form.{Form}
+use Rattle.parts.specs.declared.forms.Form.TheVariants as forms
+use Rattle.parts.specs.declared.forms.Opening.{Opening}
+use Rattle.parts.specs.declared.forms.Opening.TheVariants as openings
+use Rattle.parts.specs.Forms.{place, Stands, opens, Opens}
+use Rattle.parts.proofs.FormPlaces.{one-place, one-opening}
+use Rattle.parts.proofs.forms.Form.at.Reads as form-at
+use Rattle.parts.proofs.forms.Opening.at.Reads as opening-at
 use Rattle.parts.proofs.effects.effect_stmt.Reads as effect-stmt
 use Rattle.parts.proofs.imports.import_stmt.Reads as import-stmt
 use Rattle.parts.proofs.records.atom_expr.Reads as atom-expr
@@ -36,7 +42,7 @@ use Rattle.parts.proofs.steps.alone.Reads as alone
 use Rattle.parts.proofs.steps.any_params.Reads as any-params
 use Rattle.parts.proofs.steps.braced.Reads as braced
 use Rattle.parts.proofs.steps.question.Reads as question
-use Rattle.parts.proofs.steps.no_member.Reads as no_member
+use Rattle.parts.proofs.steps.no_member.Reads as no-member
 use Rattle.parts.proofs.steps.pound.Reads as pound
 use Rattle.parts.proofs.steps.meta_end.Reads as meta-end
 use Rattle.parts.proofs.steps.items_end.Reads as items-end
@@ -47,156 +53,170 @@ use Rattle.parts.proofs.steps.leaf.Reads as leaf
 use Rattle.parts.proofs.steps.loop_names.Reads as loop-names
 use Rattle.parts.proofs.steps.case_patterns.Reads as case-patterns
 use Rattle.parts.proofs.steps.type_check.Reads as type-check
-use Rattle.parts.proofs.values.link_of.Reads as link-of
-use Rattle.parts.proofs.values.to_assign_left.Reads as to-assign-left
+use Rattle.parts.proofs.values.Expr.link.Reads as link-of
+use Rattle.parts.proofs.values.Expr.assign_left.Reads as to-assign-left
 
--- what a rule holds that is lent the node buffer and the live list, or one of them
-abbrev held : List ℕ → List ℕ → World
-held nodes live = world nodes [] [] live
+-- a turn's two answers are one, and what the parser holds
+abbrev pub OneTurn : {A : Type 0} → Parser → Parser → Result (ControlFlow A A) Stop → Result (ControlFlow A A) Stop → Type 0
+OneTurn p q r t = (r ≡ t) × (Settled (ended p (as_turn r)) → Same p q)
 
--- for what a contract says of all
-blank : World
-blank = held [] []
-
-abbrev any : Limits
-any = record { allowance = 0 }
-
-abbrev start : State
-start = record { at = 0; prev = 0; reads = 0; nodes = 0; errors = 0; wanted = 0; live = 0 }
-
-module _ {K G B X : Type 0} (Post : K → G → B → X → Type 0) where
-  -- a contract admits one answer only. `x` and `y` are the lent slices on return
-  abbrev pub OneAnswer : Type 0
-  OneAnswer = (κs : K) (args : G) (r s : B) (x y : X) → Post κs args r x → Post κs args s y → r ≡ s
-
-  -- and, unless the whole reading was refused, the buffers then hold one thing only; those that are not lent are taken as empty
-  abbrev pub OneEnd : {A : Type 0} → (B → World → Out A) → (X → World) → Type 0
-  OneEnd f lent = (κs : K) (args : G) (r s : B) (x y : X) → Post κs args r x → Post κs args s y → (r ≡ s) × (Settled (f r (lent x)) → lent x ≡ lent y)
-
-module _ {K G B X : Type 0} {Post : K → G → B → X → Type 0} where
-  -- where the contract is an equation with the answer
-  pub equation : {v : K → G → B} → ((κs : K) (args : G) (r : B) (x : X) → Post κs args r x → r ≡ v κs args) → OneAnswer Post
-  equation says κs args r s x y p q = says κs args r x p ∙ sym (says κs args s y q)
-
-  -- where it is an equation with the end of a rule
-  pub rule : {A : Type 0} {f : B → World → Out A} {lent : X → World} {o : K → G → Out A} → Told f
-      → ((κs : K) (args : G) (r : B) (x : X) → Post κs args r x → f r (lent x) ≡ o κs args) → OneEnd Post f lent
-  rule told says κs args r s x y p q = one told r s _ _ (says κs args r x p) (says κs args s y q)
+pub itself : {A : Type 0} → Apart (λ (a : A). a)
+itself a b h = h
 
 -- a contract that is an equation with the answer
-pub one-atom-expr : OneAnswer atom-expr.Post
-one-atom-expr = equation (λ _ _ _ _ p. p)
+pub one-atom-expr : (κs : _) (args : _) (r s : _) (x y : _) → atom-expr.Post κs args r x → atom-expr.Post κs args s y → r ≡ s
+one-atom-expr κs args r s x y p q = p ∙ sym q
 
-pub one-alone : OneAnswer alone.Post
-one-alone = equation (λ _ _ _ _ p. p)
+pub one-alone : (κs : _) (args : _) (r s : _) (x y : _) → alone.Post κs args r x → alone.Post κs args s y → r ≡ s
+one-alone κs args r s x y p q = p ∙ sym q
 
-pub one-items-end : OneAnswer items-end.Post
-one-items-end = equation (λ _ _ _ _ p. p)
+pub one-items-end : (κs : _) (args : _) (r s : _) (x y : _) → items-end.Post κs args r x → items-end.Post κs args s y → r ≡ s
+one-items-end κs args r s x y p q = p ∙ sym q
 
-pub one-operator-of : OneAnswer operator-of.Post
-one-operator-of = equation (λ _ _ _ _ p. p)
+pub one-operator-of : (κs : _) (args : _) (r s : _) (x y : _) → operator-of.Post κs args r x → operator-of.Post κs args s y → r ≡ s
+one-operator-of κs args r s x y p q = p ∙ sym q
 
-pub one-link-of : OneAnswer link-of.Post
-one-link-of = equation (λ _ _ _ _ p. p)
+pub one-link-of : (κs : _) (args : _) (r s : _) (x y : _) → link-of.Post κs args r x → link-of.Post κs args s y → r ≡ s
+one-link-of κs args r s x y p q = p ∙ sym q
 
-pub one-to-assign-left : OneAnswer to-assign-left.Post
-one-to-assign-left = equation (λ _ _ _ _ p. p)
+pub one-to-assign-left : (κs : _) (args : _) (r s : _) (x y : _) → to-assign-left.Post κs args r x → to-assign-left.Post κs args s y → r ≡ s
+one-to-assign-left κs args r s x y p q = p ∙ sym q
 
--- a rule that lends no buffer
-pub one-undone : OneAnswer undone.Post
-one-undone κs args r s x y p q = (one moved r s blank blank (p blank) (q blank)).0
+-- a place of a chain: one form of an atom stands there, or none
+form-below : (f : Form) → place f < 15
+form-below forms.OpenParen = omega arith
+form-below forms.Ident = omega arith
+form-below forms.OpenBrace = omega arith
+form-below forms.OpenBracket = omega arith
+form-below forms.Fn = omega arith
+form-below forms.VBar = omega arith
+form-below forms.Do = omega arith
+form-below forms.If = omega arith
+form-below forms.Match = omega arith
+form-below forms.Loop = omega arith
+form-below forms.While = omega arith
+form-below forms.For = omega arith
+form-below forms.Break = omega arith
+form-below forms.Continue = omega arith
+form-below forms.Return = omega arith
 
-pub one-no-member : OneAnswer no_member.Post
-one-no-member κs args r s x y p q = (one chained r s blank blank (p [] any blank) (q [] any blank)).0
+stands : (n : ℕ) (r s : Option Form) → Stands n r → Stands n s → r ≡ s
+stands n (Some f) (Some g) p q = ap Some (one-place f g (sym p ∙ q))
+stands n (Some f) None p q = absurd (let h = form-below f in omega arith)
+stands n None (Some g) p q = absurd (let h = form-below g in omega arith)
+stands n None None p q = refl
 
--- a rule on records
-pub one-couple : OneEnd couple.Post as_built (λ x. held x.0.now [])
-one-couple = rule built (λ _ _ _ _ p. p [] [] [])
+pub one-form-at : (κs : _) (args : _) (r s : _) (x y : _) → form-at.Post κs args r x → form-at.Post κs args s y → r ≡ s
+one-form-at κs args r s x y p q = stands args.0 r s p q
 
-pub one-row-record : OneEnd row-record.Post as_built (λ x. held x.0.now [])
-one-row-record = rule built (λ _ _ _ _ p. p [] [] [])
+-- and one way to begin a member
+opening-below : (o : Opening) → opens o < 3
+opening-below openings.Bracket = omega arith
+opening-below openings.Dot = omega arith
+opening-below openings.DoubleColon = omega arith
 
-pub one-list-record : OneEnd list-record.Post as_built (λ x. held x.0.now [])
-one-list-record = rule built (λ _ _ _ _ p. p [] [] [])
+open-there : (n : ℕ) (r s : Option Opening) → Opens n r → Opens n s → r ≡ s
+open-there n (Some f) (Some g) p q = ap Some (one-opening f g (sym p ∙ q))
+open-there n (Some f) None p q = absurd (let h = opening-below f in omega arith)
+open-there n None (Some g) p q = absurd (let h = opening-below g in omega arith)
+open-there n None None p q = refl
 
-pub one-block-record : OneEnd block-record.Post as_built (λ x. held x.0.now [])
-one-block-record = rule built (λ _ _ _ _ p. p [] [] [])
+pub one-opening-at : (κs : _) (args : _) (r s : _) (x y : _) → opening-at.Post κs args r x → opening-at.Post κs args s y → r ≡ s
+one-opening-at κs args r s x y p q = open-there args.0 r s p q
 
-pub one-fn-record : OneEnd fn-record.Post as_built (λ x. held x.0.now [])
-one-fn-record = rule built (λ _ _ _ _ p. p [] [] [])
+-- a rule
+pub one-effect-stmt : (κs : _) (args : _) (r s : _) (x y : _) → effect-stmt.Post κs args r x → effect-stmt.Post κs args s y → One x.0.now y.0.now r s
+one-effect-stmt κs args r s x y p q = one x.0.now y.0.now r s p.0 q.0
 
-pub one-nameless : OneEnd nameless.Post as_built (λ x. held x.0.now [])
-one-nameless = rule built (λ _ _ _ _ p. p [] [] [])
+pub one-import-stmt : (κs : _) (args : _) (r s : _) (x y : _) → import-stmt.Post κs args r x → import-stmt.Post κs args s y → One x.0.now y.0.now r s
+one-import-stmt κs args r s x y p q = one x.0.now y.0.now r s p.0 q.0
 
-pub one-function-record : OneEnd function-record.Post as_built (λ x. held x.0.now [])
-one-function-record = rule built (λ _ _ _ _ p. p [] [] [])
+pub one-couple : (κs : _) (args : _) (r s : _) (x y : _) → couple.Post κs args r x → couple.Post κs args s y → One x.0.now y.0.now r s
+one-couple κs args r s x y p q = one x.0.now y.0.now r s p.0 q.0
 
-pub one-handler-record : OneEnd handler-record.Post as_built (λ x. held x.0.now [])
-one-handler-record = rule built (λ _ _ _ _ p. p [] [] [])
+pub one-row-record : (κs : _) (args : _) (r s : _) (x y : _) → row-record.Post κs args r x → row-record.Post κs args s y → One x.0.now y.0.now r s
+one-row-record κs args r s x y p q = one x.0.now y.0.now r s p.0 q.0
 
-pub one-if-record : OneEnd if-record.Post as_built (λ x. held x.0.now [])
-one-if-record = rule built (λ _ _ _ _ p. p [] [] [])
+pub one-list-record : (κs : _) (args : _) (r s : _) (x y : _) → list-record.Post κs args r x → list-record.Post κs args s y → One x.0.now y.0.now r s
+one-list-record κs args r s x y p q = one x.0.now y.0.now r s p.0 q.0
 
-pub one-loop-record : OneEnd loop-record.Post as_built (λ x. held x.0.now [])
-one-loop-record = rule built (λ _ _ _ _ p. p [] [] [])
+pub one-block-record : (κs : _) (args : _) (r s : _) (x y : _) → block-record.Post κs args r x → block-record.Post κs args s y → One x.0.now y.0.now r s
+one-block-record κs args r s x y p q = one x.0.now y.0.now r s p.0 q.0
 
-pub one-round-record : OneEnd round-record.Post as_built (λ x. held x.0.now [])
-one-round-record = rule built (λ _ _ _ _ p. p [] [] [])
+pub one-fn-record : (κs : _) (args : _) (r s : _) (x y : _) → fn-record.Post κs args r x → fn-record.Post κs args s y → One x.0.now y.0.now r s
+one-fn-record κs args r s x y p q = one x.0.now y.0.now r s p.0 q.0
 
-pub one-call-record : OneEnd call-record.Post as_chained (λ x. held x.0.now [])
-one-call-record = rule chained (λ _ _ _ _ p. p [] [] [])
+pub one-nameless : (κs : _) (args : _) (r s : _) (x y : _) → nameless.Post κs args r x → nameless.Post κs args s y → One x.0.now y.0.now r s
+one-nameless κs args r s x y p q = one x.0.now y.0.now r s p.0 q.0
 
-pub one-member-record : OneEnd member-record.Post as_chained (λ x. held x.0.now [])
-one-member-record = rule chained (λ _ _ _ _ p. p [] [] [])
+pub one-function-record : (κs : _) (args : _) (r s : _) (x y : _) → function-record.Post κs args r x → function-record.Post κs args s y → One x.0.now y.0.now r s
+one-function-record κs args r s x y p q = one x.0.now y.0.now r s p.0 q.0
 
-pub one-leaf : OneEnd leaf.Post as_built (λ x. held x.1.0.now [])
-one-leaf = rule built (λ _ _ _ _ p. p [] [] [] [])
+pub one-handler-record : (κs : _) (args : _) (r s : _) (x y : _) → handler-record.Post κs args r x → handler-record.Post κs args s y → One x.0.now y.0.now r s
+one-handler-record κs args r s x y p q = one x.0.now y.0.now r s p.0 q.0
 
-pub one-type-check : OneEnd type-check.Post as_chained (λ x. held x.1.1.0.now [])
-one-type-check = rule chained (λ _ _ _ _ p. p [] [] [])
+pub one-if-record : (κs : _) (args : _) (r s : _) (x y : _) → if-record.Post κs args r x → if-record.Post κs args s y → One x.0.now y.0.now r s
+one-if-record κs args r s x y p q = one x.0.now y.0.now r s p.0 q.0
 
--- a rule on records that answers nothing and cannot fail
-pub one-handlers-flagged : (κs : _) (args : _) (r s : _) (x y : _) → handlers-flagged.Post κs args r x → handlers-flagged.Post κs args s y → x.0.now ≡ y.0.now
-one-handlers-flagged κs args r s x y p q = ap (λ o. (held_by blank o).nodes) (p start [] [] [] ∙ sym (q start [] [] []))
+pub one-loop-record : (κs : _) (args : _) (r s : _) (x y : _) → loop-record.Post κs args r x → loop-record.Post κs args s y → One x.0.now y.0.now r s
+one-loop-record κs args r s x y p q = one x.0.now y.0.now r s p.0 q.0
 
--- a rule that writes the live list alone
-pub one-braced : OneEnd braced.Post as_test (λ x. held [] x.1.0.now)
-one-braced = rule tested (λ _ _ _ _ p. p [] any [] [] [])
+pub one-round-record : (κs : _) (args : _) (r s : _) (x y : _) → round-record.Post κs args r x → round-record.Post κs args s y → One x.0.now y.0.now r s
+one-round-record κs args r s x y p q = one x.0.now y.0.now r s p.0 q.0
 
-pub one-question : OneEnd question.Post as_asked (λ x. held [] x.1.0.now)
-one-question = rule asked (λ _ _ _ _ p. p [] [] [] [])
+pub one-undone : (κs : _) (args : _) (r s : _) (x y : _) → undone.Post κs args r x → undone.Post κs args s y → One x.0.now y.0.now r s
+one-undone κs args r s x y p q = one x.0.now y.0.now r s p.0 q.0
 
-pub one-pound : OneEnd pound.Post as_pounded (λ x. held [] x.1.0.now)
-one-pound = rule pounded (λ _ _ _ _ p. p [] [] [] [])
+pub one-recovered : (κs : _) (args : _) (r s : _) (x y : _) → recovered.Post κs args r x → recovered.Post κs args s y → One x.0.now y.0.now r s
+one-recovered κs args r s x y p q = one x.0.now y.0.now r s p.0 q.0
 
-pub one-meta-end : OneEnd meta-end.Post as_built (λ x. held [] x.1.0.now)
-one-meta-end = rule built (λ _ _ _ _ p. p [] [] [] [])
+pub one-any-params : (κs : _) (args : _) (r s : _) (x y : _) → any-params.Post κs args r x → any-params.Post κs args s y → One x.0.now y.0.now r s
+one-any-params κs args r s x y p q = one x.0.now y.0.now r s p.0 q.0
 
--- a rule on records and the live list
-pub one-import-stmt : OneEnd import-stmt.Post as_built (λ x. held x.1.0.now x.1.1.0.now)
-one-import-stmt = rule built (λ _ _ _ _ p. p [] [] [])
+pub one-braced : (κs : _) (args : _) (r s : _) (x y : _) → braced.Post κs args r x → braced.Post κs args s y → One x.0.now y.0.now r s
+one-braced κs args r s x y p q = one x.0.now y.0.now r s p.0 q.0
 
-pub one-paren-key : OneEnd paren-key.Post as_built (λ x. held x.1.0.now x.1.1.0.now)
-one-paren-key = rule built (λ _ _ _ _ p. p [] [] [])
+pub one-question : (κs : _) (args : _) (r s : _) (x y : _) → question.Post κs args r x → question.Post κs args s y → One x.0.now y.0.now r s
+one-question κs args r s x y p q = one x.0.now y.0.now r s p.0 q.0
 
-pub one-loop-names : OneEnd loop-names.Post as_rowed (λ x. held x.1.0.now x.1.1.0.now)
-one-loop-names = rule rowed (λ _ _ _ _ p. p [] [] [])
+pub one-pound : (κs : _) (args : _) (r s : _) (x y : _) → pound.Post κs args r x → pound.Post κs args s y → One x.0.now y.0.now r s
+one-pound κs args r s x y p q = one x.0.now y.0.now r s p.0 q.0
 
-pub one-effect-stmt : OneEnd effect-stmt.Post as_built (λ x. held x.1.1.0.now x.1.1.1.0.now)
-one-effect-stmt = rule built (λ _ _ _ _ p. p [] [])
+pub one-meta-end : (κs : _) (args : _) (r s : _) (x y : _) → meta-end.Post κs args r x → meta-end.Post κs args s y → One x.0.now y.0.now r s
+one-meta-end κs args r s x y p q = one x.0.now y.0.now r s p.0 q.0
 
-pub one-lit-key : OneEnd lit-key.Post as_built (λ x. held x.1.1.0.now x.1.1.1.0.now)
-one-lit-key = rule built (λ _ _ _ _ p. p [] [])
+pub one-lit-key : (κs : _) (args : _) (r s : _) (x y : _) → lit-key.Post κs args r x → lit-key.Post κs args s y → One x.0.now y.0.now r s
+one-lit-key κs args r s x y p q = one x.0.now y.0.now r s p.0 q.0
 
-pub one-any-params : OneEnd any-params.Post as_listed (λ x. held x.1.1.0.now x.1.1.1.0.now)
-one-any-params = rule listed (λ _ _ _ _ p. p [] [])
+pub one-paren-key : (κs : _) (args : _) (r s : _) (x y : _) → paren-key.Post κs args r x → paren-key.Post κs args s y → One x.0.now y.0.now r s
+one-paren-key κs args r s x y p q = one x.0.now y.0.now r s p.0 q.0
 
-pub one-case-patterns : OneEnd case-patterns.Post as_rowed (λ x. held x.1.1.0.now x.1.1.1.0.now)
-one-case-patterns = rule rowed (λ _ _ _ _ p. p [] [])
+pub one-leaf : (κs : _) (args : _) (r s : _) (x y : _) → leaf.Post κs args r x → leaf.Post κs args s y → One x.0.now y.0.now r s
+one-leaf κs args r s x y p q = one x.0.now y.0.now r s p.0 q.0
 
--- a rule that logs errors too
-pub one-recovered : OneEnd recovered.Post as_built (λ x. world [] x.1.0.now x.1.1.0.now x.1.1.1.0.now)
-one-recovered = rule built (λ _ _ _ _ p. p [] [])
+pub one-loop-names : (κs : _) (args : _) (r s : _) (x y : _) → loop-names.Post κs args r x → loop-names.Post κs args s y → One x.0.now y.0.now r s
+one-loop-names κs args r s x y p q = one x.0.now y.0.now r s p.0 q.0
 
-pub one-after-stmt : OneEnd after-stmt.Post as_kids_turned (λ x. world x.1.0.now x.1.1.0.now x.1.1.1.0.now x.1.1.1.1.0.now)
-one-after-stmt = rule kids_turned (λ _ _ _ _ p. p [])
+pub one-case-patterns : (κs : _) (args : _) (r s : _) (x y : _) → case-patterns.Post κs args r x → case-patterns.Post κs args s y → One x.0.now y.0.now r s
+one-case-patterns κs args r s x y p q = one x.0.now y.0.now r s p.0 q.0
+
+-- a rule that cannot fail
+pub one-handlers-flagged : (κs : _) (args : _) (r s : _) (x y : _) → handlers-flagged.Post κs args r x → handlers-flagged.Post κs args s y → Same x.0.now y.0.now
+one-handlers-flagged κs args r s x y p q = (alike x.0.now y.0.now _ _ p.0 q.0).1
+
+-- a turn
+pub one-call-record : (κs : _) (args : _) (r s : _) (x y : _) → call-record.Post κs args r x → call-record.Post κs args s y → OneTurn x.0.now y.0.now r s
+one-call-record κs args r s x y p q = one_turn itself itself x.0.now y.0.now r s p.0 q.0
+
+pub one-member-record : (κs : _) (args : _) (r s : _) (x y : _) → member-record.Post κs args r x → member-record.Post κs args s y → OneTurn x.0.now y.0.now r s
+one-member-record κs args r s x y p q = one_turn itself itself x.0.now y.0.now r s p.0 q.0
+
+pub one-after-stmt : (κs : _) (args : _) (r s : _) (x y : _) → after-stmt.Post κs args r x → after-stmt.Post κs args s y → OneTurn x.0.now y.0.now r s
+one-after-stmt κs args r s x y p q = one_turn itself itself x.0.now y.0.now r s p.0 q.0
+
+pub one-type-check : (κs : _) (args : _) (r s : _) (x y : _) → type-check.Post κs args r x → type-check.Post κs args s y → OneTurn x.0.now y.0.now r s
+one-type-check κs args r s x y p q = one_turn itself itself x.0.now y.0.now r s p.0 q.0
+
+-- and one that leaves the parser as it is
+pub one-no-member : (κs : _) (args : _) (r s : _) (x y : _) → no-member.Post κs args r x → no-member.Post κs args s y → r ≡ s
+one-no-member κs args r s x y p q = (one_turn itself itself args.0.now args.0.now r s p q).0

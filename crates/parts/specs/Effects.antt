@@ -1,9 +1,8 @@
 -- Effects: parse_effect_stmt.
 use Rattle.std.specs.Prelude.{ℕ, false, ltb}
 use Rattle.kinds.specs.Number as kind
-use Rattle.cursor.specs.declared.Ranged.{Ranged}
+use Rattle.cursor.specs.Sheet.{Ranged, Sheet}
 use Rattle.cursor.specs.Node as node
-use Rattle.cursor.specs.Sheet.{Sheet}
 use Rattle.cursor.specs.Rule.{Rule, ◌>>=◌, ◌>>◌}
 use Rattle.cursor.specs.Checks.{expect}
 use Rattle.cursor.specs.Records.{add, no_kids, flagged}

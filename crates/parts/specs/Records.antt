@@ -1,7 +1,7 @@
 -- The records of expressions over what was read of them (docs/LAYOUT.md).
 use Rattle.std.specs.Prelude.{ℕ, zero, suc, Bool, true, false, ltb, eqb}
 use Rattle.cursor.specs.declared.Kids.{Kids}
-use Rattle.cursor.specs.declared.Ranged.{Ranged}
+use Rattle.cursor.specs.Sheet.{Ranged}
 use Rattle.cursor.specs.Node as node
 use Rattle.cursor.specs.Rule.{Rule, ◌>>=◌, give, Next, more}
 use Rattle.cursor.specs.Records.{add, reflag, no_kids, flagged}

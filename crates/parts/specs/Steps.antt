@@ -1,21 +1,17 @@
 -- Steps of expressions that read no expression themselves: parameters, a table's keys, the names of a `for`, a case's patterns, what stands behind `is`, `?` and `#`, `break` and `continue`.
-use Rattle.std.specs.Prelude.{ℕ, List, Bool, true, false, ltb, eqb}
+use Rattle.std.specs.Prelude.{ℕ, List, Bool, true, false, ltb, eqb, Option, Some, None}
 use Rattle.kinds.specs.Number as kind
 use Rattle.kinds.specs.Text.{part}
-use Rattle.kinds.specs.declared.operator.Operator.{Operator}
-use Rattle.kinds.specs.declared.operator.Operator.TheVariants as operators
+use Rattle.kinds.specs.declared.operator.BinOp.{BinOp}
 use Rattle.kinds.specs.Operators.{compound_of, op_kind}
-use Rattle.kinds.specs.declared.types.TypeWord.{TypeWord}
-use Rattle.kinds.specs.declared.types.TypeWord.TheVariants as words
+use Rattle.kinds.specs.declared.types.ValueType.{ValueType}
 use Rattle.kinds.specs.TypeWords.{type_word, type_number}
 use Rattle.cursor.specs.declared.Kids.{Kids}
 use Rattle.cursor.specs.declared.Fault.{Fault}
 use Rattle.cursor.specs.declared.Span.{Span}
-use Rattle.cursor.specs.declared.Ranged.{Ranged}
-use Rattle.cursor.specs.declared.Ranged.TheVariants as ranged
+use Rattle.cursor.specs.Sheet.{Sheet, kind_at, range_at, Ranged}
 use Rattle.cursor.specs.Node as node
 use Rattle.cursor.specs.Layout.{UNEXPECTED}
-use Rattle.cursor.specs.Sheet.{Sheet, kind_at, range_at}
 use Rattle.cursor.specs.Rule.{Rule, ◌>>=◌, ◌>>◌, give, if_so, Next, more, stop, Turn, iterate}
 use Rattle.cursor.specs.Tokens.{bump}
 use Rattle.cursor.specs.Checks.{check, eat, expect, unexpected}
@@ -26,23 +22,21 @@ use Rattle.types.specs.Items.{close, over, is_ended}
 use Rattle.types.specs.Types.{params, closure_params}
 use Rattle.parts.specs.declared.values.Expr.{Expr}
 use Rattle.parts.specs.declared.values.Expr.TheVariants as exprs
-use Rattle.parts.specs.declared.steps.Checked.{Checked}
-use Rattle.parts.specs.declared.steps.Checked.TheVariants as checked
 use Rattle.parts.specs.Forms as forms
 use Rattle.parts.specs.Values.{link_of}
 use Rattle.parts.specs.When.{when}
 
 -- an error that lists no expected kinds
 abbrev pub alone : ℕ → Span → Fault
-alone k span = record { class = UNEXPECTED; found = k; span = span; listed = 0 }
+alone k span = record { class = UNEXPECTED; found = k; span = span; listed = false }
 
 -- an operator as a record keeps it: the token kind that it is written with
 abbrev pub no_operator : ℕ
 no_operator = 0
 
-abbrev pub kept : Operator → ℕ
-kept (operators.Binary op) = op_kind op
-kept operators.Nothing = no_operator
+abbrev pub kept : Option BinOp → ℕ
+kept (Some op) = op_kind op
+kept None = no_operator
 
 -- the operator of a compound assignment, by the kind of its sign
 abbrev pub operator_of : ℕ → ℕ
@@ -64,14 +58,14 @@ unfoldable pub items_end : ℕ → ℕ
 items_end rule = elim (eqb rule Arguments) as (λ _. ℕ) [ true ↦ kind.CloseParen | false ↦ elim (eqb rule Elements) as (λ _. ℕ) [ true ↦ kind.CloseBracket | false ↦ kind.CloseBrace ] ]
 
 -- the type that a token names after `is`: null by its kind, the others by the bytes of their word
-abbrev pub checked_by : TypeWord → Checked
-checked_by (words.Known v) = checked.Type (type_number v)
-checked_by words.Unknown = checked.Unknown
+abbrev pub checked_by : Option ValueType → Option ℕ
+checked_by (Some v) = Some (type_number v)
+checked_by None = None
 
-unfoldable pub checked_type : List ℕ → ℕ → Span → Checked
-checked_type text k r = elim (eqb k kind.Null) as (λ _. Checked) [
-  | true ↦ checked.Type 0
-  | false ↦ elim (eqb k kind.Ident) as (λ _. Checked) [ true ↦ checked_by (type_word (part text r.start r.end)) | false ↦ checked.Unknown ]
+unfoldable pub checked_type : List ℕ → ℕ → Span → Option ℕ
+checked_type text k r = elim (eqb k kind.Null) as (λ _. Option ℕ) [
+  | true ↦ Some 0
+  | false ↦ elim (eqb k kind.Ident) as (λ _. Option ℕ) [ true ↦ checked_by (type_word (part text r.start r.end)) | false ↦ None ]
 ]
 
 module _ (e : Sheet) where
@@ -154,16 +148,16 @@ module _ (e : Sheet) where
   case_patterns pattern = iterate e (pattern_turn pattern) no_kids
 
   -- behind `is`: one token that names a type, and the record over what stands before it
-  unfoldable pub type_checked : ℕ → Expr → Span → Checked → Rule (Next Expr)
-  type_checked from x r (checked.Type n) = do
+  unfoldable pub type_checked : ℕ → Expr → Span → Option ℕ → Rule (Next Expr)
+  type_checked from x r (Some n) = do
     bump e
     link ← close node.TypeCheck from n r.start 0 (link_of x)
     give (more (exprs.Other link))
-  type_checked from x r checked.Unknown = unexpected e
+  type_checked from x r None = unexpected e
 
   unfoldable pub type_check_at : ℕ → Expr → ℕ → Ranged → Rule (Next Expr)
-  type_check_at from x k (ranged.At r) = type_checked from x r (checked_type e.text k r)
-  type_check_at from x k ranged.Nowhere = unexpected e
+  type_check_at from x k (Some r) = type_checked from x r (checked_type e.text k r)
+  type_check_at from x k None = unexpected e
 
   unfoldable pub type_check : ℕ → Expr → Rule (Next Expr)
   type_check from x s w = type_check_at from x (kind_at e.tokens s.at) (range_at e.tokens s.at) s w

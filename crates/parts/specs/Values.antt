@@ -1,12 +1,9 @@
 -- What an expression answers, as far as a rule asks.
-use Rattle.std.specs.Prelude.{ℕ, true, false, eqb}
+use Rattle.std.specs.Prelude.{ℕ, true, false, eqb, Option, Some, None}
 use Rattle.cursor.specs.declared.Kids.{Kids}
-use Rattle.cursor.specs.declared.Ranged.{Ranged}
-use Rattle.cursor.specs.declared.Ranged.TheVariants as ranged
+use Rattle.cursor.specs.Sheet.{Ranged}
 use Rattle.parts.specs.declared.values.Expr.{Expr}
 use Rattle.parts.specs.declared.values.Expr.TheVariants as exprs
-use Rattle.parts.specs.declared.values.AssignLeft.{AssignLeft}
-use Rattle.parts.specs.declared.values.AssignLeft.TheVariants as assigns
 use Rattle.parts.specs.Forms as forms
 
 -- the link to its record
@@ -17,11 +14,11 @@ link_of (exprs.Call link called) = link
 link_of (exprs.Other link) = link
 
 -- expr_to_assign_left: a name, or a member of a name without `?`, takes over its record
-abbrev pub to_assign_left : Expr → AssignLeft
-to_assign_left (exprs.Name link) = assigns.To link
-to_assign_left (exprs.NameMember link) = assigns.To link
-to_assign_left (exprs.Call link called) = assigns.Nothing
-to_assign_left (exprs.Other link) = assigns.Nothing
+abbrev pub to_assign_left : Expr → Option ℕ
+to_assign_left (exprs.Name link) = Some link
+to_assign_left (exprs.NameMember link) = Some link
+to_assign_left (exprs.Call link called) = None
+to_assign_left (exprs.Other link) = None
 
 -- an atom as an expression, by its form: an Ident is a plain name
 abbrev pub atom_expr : ℕ → ℕ → Expr
@@ -29,11 +26,11 @@ atom_expr which link = elim (eqb which forms.Ident) as (λ _. Expr) [ true ↦ e
 
 -- a member as an expression: on a plain name and without `?` it may be assigned to
 abbrev pub member_of : Expr → Ranged → ℕ → Expr
-member_of x (ranged.At r) link = exprs.Other link
-member_of (exprs.Name n) ranged.Nowhere link = exprs.NameMember link
-member_of (exprs.NameMember n) ranged.Nowhere link = exprs.Other link
-member_of (exprs.Call n called) ranged.Nowhere link = exprs.Other link
-member_of (exprs.Other n) ranged.Nowhere link = exprs.Other link
+member_of x (Some r) link = exprs.Other link
+member_of (exprs.Name n) None link = exprs.NameMember link
+member_of (exprs.NameMember n) None link = exprs.Other link
+member_of (exprs.Call n called) None link = exprs.Other link
+member_of (exprs.Other n) None link = exprs.Other link
 
 -- a row that begins with a child which is not counted
 abbrev pub row_of : ℕ → Kids

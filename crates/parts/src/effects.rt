@@ -1,102 +1,63 @@
 // The statement `effect`.
-ghost use Rattle.std.specs.Prelude.{◌≡◌, List, ℕ};
-ghost use Rattle.cursor.specs.Sheet.{sheet};
-ghost use Rattle.cursor.specs.Rule.{world};
-ghost use Rattle.cursor.specs.Answers.{as_built};
+ghost use Rattle.std.specs.Prelude.{◌≡◌};
+ghost use Rattle.cursor.specs.Answers.{sheet_of, run, ended, SameErrors, SameLists};
 ghost use Rattle.types.specs.Types.{atoms};
 ghost use Rattle.parts.specs.Effects.{effect_record, effect_stmt};
 
-use cursor::checks::expect;
-use cursor::records::{add, flagged};
-use cursor::tokens::start_range;
-use cursor::{Built, Kids, Limits, Moved, Ranged, State, nodes};
-use types::items::{Items, Listed, NO_KIDS, add_some, close, is_ended};
+use cursor::records::flagged;
+use cursor::{Parser, Sheet, Span, Stop, nodes};
+use types::items::{Items, NO_KIDS, add_some, close};
 use types::lits::ident;
 use types::patterns::span_of;
 use types::types::{params, returns};
 
 // The record of an effect over its parameters and the type that it returns, and the statement's record over its name and it.
 fn effect_record(
-    nodes: &mut [u32],
-    s: State,
+    p: &mut Parser<'_>,
     from: u32,
     inside: u32,
-    glo: Ranged,
+    glo: Option<Span>,
     name: u32,
     items: Items,
     link: u32,
-) -> Built
-    ensures { (e x l : List ℕ) → as_built result (world nodes.new e x l) ≡ effect_record from inside glo name items link s (world nodes.old e x l) }
+) -> Result<u32, Stop>
+    ensures ended { ended p.new result ≡ run (effect_record from inside glo name items link) p.old }
+    ensures lent { SameLists p.old p.new }
 {
     let row = items.kids;
-    let last = items.ended;
-    let kids = add_some(nodes, row, link);
-    let flags = flagged(row.count, 0, is_ended(last), 0 < link);
-    let built = close(nodes, s, nodes::EFFECT, inside, 0, 0, flags, kids.first);
-    match built {
-        Built::Node(t, effect) => {
-            let one = add(nodes, NO_KIDS, name);
-            let two = add(nodes, one, effect);
-            let mark = span_of(glo);
-            let told = flagged(0, 0, is_ended(glo), false);
-            close(
-                nodes,
-                t,
-                nodes::EXPR_EFFECT,
-                from,
-                mark.start,
-                mark.end,
-                told,
-                two.first,
-            )
-        }
-        Built::Failed(f) => Built::Failed(f),
-    }
+    let kids = add_some(p, row, link);
+    let flags = flagged(row.count, 0, items.ended.is_some(), 0 < link);
+    let effect = close(p, nodes::EFFECT, inside, 0, 0, flags, kids.first)?;
+    let one = p.add(NO_KIDS, name);
+    let two = p.add(one, effect);
+    let mark = span_of(glo);
+    let told = flagged(0, 0, glo.is_some(), false);
+    close(
+        p,
+        nodes::EXPR_EFFECT,
+        from,
+        mark.start,
+        mark.end,
+        told,
+        two.first,
+    )
 }
 
 // Rust's parse_effect_stmt, and the statement that it is, perhaps behind `glo`.
 pub fn effect_stmt(
-    text: &[u8],
-    tokens: &[u32],
-    nodes: &mut [u32],
-    live: &mut [u8; 1024],
-    limits: Limits,
-    s: State,
+    p: &mut Parser<'_>,
+    sheet: &Sheet<'_>,
     depth: u32,
     from: u32,
-    glo: Ranged,
-) -> Built
-    ensures { (e x : List ℕ) → as_built result (world nodes.new e x live.new) ≡ effect_stmt (sheet text.now tokens.now limits) (atoms (sheet text.now tokens.now limits) depth) from glo s (world nodes.old e x live.old) }
+    glo: Option<Span>,
+) -> Result<u32, Stop>
+    ensures ended { ended p.new result ≡ run (effect_stmt (sheet_of sheet.now) (atoms (sheet_of sheet.now) depth) from glo) p.old }
+    ensures lent { SameErrors p.old p.new }
 {
-    let inside = start_range(tokens, s);
-    let opened = expect(tokens, live, limits, s, kinds::EFFECT);
-    let s1 = match opened {
-        Moved::On(t) => t,
-        Moved::Failed(f) => return Built::Failed(f),
-    };
-    let named = ident(tokens, nodes, live, limits, s1);
-    let mut s2: State;
-    let mut name: u32;
-    match named {
-        Built::Node(t, l) => {
-            s2 = t;
-            name = l;
-        }
-        Built::Failed(f) => return Built::Failed(f),
-    }
-    let listed = params(text, tokens, nodes, live, limits, s2, depth, NO_KIDS);
-    let mut s3: State;
-    let mut items: Items;
-    match listed {
-        Listed::Row(t, i) => {
-            s3 = t;
-            items = i;
-        }
-        Listed::Failed(f) => return Built::Failed(f),
-    }
-    let returned = returns(text, tokens, nodes, live, limits, s3, depth);
-    match returned {
-        Built::Node(t, link) => effect_record(nodes, t, from, inside, glo, name, items, link),
-        Built::Failed(f) => Built::Failed(f),
-    }
+    let inside = p.start_range(sheet);
+    p.expect(sheet, kinds::EFFECT)?;
+    let name = ident(p, sheet)?;
+    let items = params(p, sheet, depth, NO_KIDS)?;
+    let link = returns(p, sheet, depth)?;
+    effect_record(p, from, inside, glo, name, items, link)
 }

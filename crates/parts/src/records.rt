@@ -1,299 +1,279 @@
 // The records of expressions over what was read of them.
-ghost use Rattle.std.specs.Prelude.{◌≡◌, List, ℕ};
-ghost use Rattle.cursor.specs.declared.State.{State};
-ghost use Rattle.cursor.specs.Rule.{world, bind, done};
-ghost use Rattle.cursor.specs.Answers.{as_built};
-ghost use Rattle.types.specs.Answers.{as_listed};
-ghost use Rattle.parts.specs.Answers.{as_chained};
+ghost use Rattle.std.specs.Prelude.{◌≡◌, None, Ok};
+ghost use Rattle.cursor.specs.Rule.{bind};
+ghost use Rattle.cursor.specs.Answers.{run, ended, SameLists};
+ghost use Rattle.parts.specs.Answers.{as_turn};
+ghost use Rattle.parts.specs.Forms.{place, opens};
 ghost use Rattle.parts.specs.Members.{member_at};
 ghost use Rattle.parts.specs.Values.{atom_expr, member_of};
 ghost use Rattle.cursor.specs.Node as node;
-ghost use Rattle.cursor.specs.declared.Ranged.TheVariants as ranged;
 ghost use Rattle.types.specs.Items.{close};
-ghost use Rattle.parts.specs.Records.{couple, row_record, list_record, wrapped, block_record, fn_record, function_record, handler_record, handlers_flagged, if_record, round_record, call_record, member_record};
+ghost use Rattle.parts.specs.Records.{couple, row_record, list_record, block_record, fn_record, function_record, handler_record, handlers_flagged, if_record, round_record, call_record, member_record};
 
-use crate::forms;
-use crate::values::{Called, Chained, Expr, link_of};
-use cursor::records::{add, flagged, reflag};
-use cursor::{Built, Kids, Ranged, State, nodes};
-use types::items::{Items, Listed, NO_KIDS, add_some, close, is_ended};
+use crate::forms::{Form, Opening};
+use crate::values::{Called, Expr};
+use cursor::records::flagged;
+use cursor::{Kids, Parser, Span, Stop, nodes};
+use std::ops::ControlFlow;
+use types::items::{Items, NO_KIDS, add_some, close};
 use types::patterns::span_of;
 
 // An atom as an expression, by its form: an Ident is a plain name.
-pub fn atom_expr(which: usize, link: u32) -> Expr
-    ensures { result ≡ atom_expr which link }
+pub fn atom_expr(form: Form, link: u32) -> Expr
+    ensures { result ≡ atom_expr (place form) link }
 {
-    if which == forms::IDENT {
-        return Expr::Name(link);
+    match form {
+        Form::Ident => Expr::Name(link),
+        _ => Expr::Other(link),
     }
-    Expr::Other(link)
 }
 
-// A record over two children with one word of its own.
-pub fn couple(nodes: &mut [u32], s: State, kind: u32, from: u32, word: u32, a: u32, b: u32) -> Built
-    ensures { (e x l : List ℕ) → as_built result (world nodes.new e x l) ≡ couple kind from word a b s (world nodes.old e x l) }
+// A record over two children with one word of its own. Beside `pair` of types, which has none: each is a rule's record by its own name.
+pub fn couple(
+    p: &mut Parser<'_>,
+    kind: u32,
+    from: u32,
+    word: u32,
+    a: u32,
+    b: u32,
+) -> Result<u32, Stop>
+    ensures ended { ended p.new result ≡ run (couple kind from word a b) p.old }
+    ensures lent { SameLists p.old p.new }
 {
-    let one = add(nodes, NO_KIDS, a);
-    let two = add(nodes, one, b);
-    close(nodes, s, kind, from, word, 0, 0, two.first)
+    let one = p.add(NO_KIDS, a);
+    let two = p.add(one, b);
+    close(p, kind, from, word, 0, 0, two.first)
 }
 
 // A record over a counted row and one more child.
-pub fn row_record(nodes: &mut [u32], s: State, kind: u32, from: u32, kids: Kids, link: u32) -> Built
-    ensures { (e x l : List ℕ) → as_built result (world nodes.new e x l) ≡ row_record kind from kids link s (world nodes.old e x l) }
+pub fn row_record(
+    p: &mut Parser<'_>,
+    kind: u32,
+    from: u32,
+    kids: Kids,
+    link: u32,
+) -> Result<u32, Stop>
+    ensures ended { ended p.new result ≡ run (row_record kind from kids link) p.old }
+    ensures lent { SameLists p.old p.new }
 {
     let flags = flagged(kids.count, 0, false, false);
-    let all = add(nodes, kids, link);
-    close(nodes, s, kind, from, 0, 0, flags, all.first)
+    let all = p.add(kids, link);
+    close(p, kind, from, 0, 0, flags, all.first)
 }
 
-// A record over the items of a list, once they are read.
-pub fn list_record(nodes: &mut [u32], from: u32, kind: u32, listed: Listed) -> Built
-    ensures { (e x l : List ℕ) → as_built result (world nodes.new e x l) ≡ bind (as_listed listed (world nodes.old e x l)) (λ s w i. list_record kind from i s w) }
+// A record over the items of a list, once they are read. Like `nameless`, `if_record` and `loop_record` it takes a failed reading too, on which wrong
+// answers are ruled out (crates/ruled_out).
+pub fn list_record(
+    p: &mut Parser<'_>,
+    from: u32,
+    kind: u32,
+    listed: Result<Items, Stop>,
+) -> Result<u32, Stop>
+    ensures ended { ended p.new result ≡ bind (ended p.old listed) (λ s w i. list_record kind from i s w) }
+    ensures lent { SameLists p.old p.new }
 {
-    match listed {
-        Listed::Row(s, items) => {
-            let kids = items.kids;
-            let flags = flagged(kids.count, 0, false, false);
-            close(nodes, s, kind, from, 0, 0, flags, kids.first)
-        }
-        Listed::Failed(f) => Built::Failed(f),
-    }
+    let kids = listed?.kids;
+    let flags = flagged(kids.count, 0, false, false);
+    close(p, kind, from, 0, 0, flags, kids.first)
 }
 
-// The record of a block, and perhaps one of another kind over it alone.
+// The record of a block, and perhaps one of another kind over it alone: 0 for none, as the rule `block` has it.
 pub fn block_record(
-    nodes: &mut [u32],
-    s: State,
+    p: &mut Parser<'_>,
     inside: u32,
     wrap: u32,
     from: u32,
     row: Kids,
-) -> Built
-    ensures { (e x l : List ℕ) → as_built result (world nodes.new e x l) ≡ block_record inside wrap from row s (world nodes.old e x l) }
+) -> Result<u32, Stop>
+    ensures ended { ended p.new result ≡ run (block_record inside wrap from row) p.old }
+    ensures lent { SameLists p.old p.new }
 {
     let flags = flagged(row.count, 0, false, false);
-    let built = close(nodes, s, nodes::BLOCK, inside, 0, 0, flags, row.first);
+    let link = close(p, nodes::BLOCK, inside, 0, 0, flags, row.first)?;
     if wrap == 0 {
-        return built;
+        return Ok(link);
     }
-    match built {
-        Built::Node(t, link) => close(nodes, t, wrap, from, 0, 0, 0, link),
-        Built::Failed(f) => Built::Failed(f),
-    }
+    close(p, wrap, from, 0, 0, 0, link)
 }
 
 // The expression Fn over its name, where it has one, and its function; `glo` is words of it.
-pub fn fn_record(nodes: &mut [u32], s: State, from: u32, glo: Ranged, name: u32, link: u32) -> Built
-    ensures { (e x l : List ℕ) → as_built result (world nodes.new e x l) ≡ fn_record from glo name link s (world nodes.old e x l) }
+pub fn fn_record(
+    p: &mut Parser<'_>,
+    from: u32,
+    glo: Option<Span>,
+    name: u32,
+    link: u32,
+) -> Result<u32, Stop>
+    ensures ended { ended p.new result ≡ run (fn_record from glo name link) p.old }
+    ensures lent { SameLists p.old p.new }
 {
-    let one = add_some(nodes, NO_KIDS, name);
-    let two = add(nodes, one, link);
+    let one = add_some(p, NO_KIDS, name);
+    let two = p.add(one, link);
     let mark = span_of(glo);
-    let flags = flagged(0, 0, is_ended(glo), 0 < name);
-    close(
-        nodes,
-        s,
-        nodes::FN,
-        from,
-        mark.start,
-        mark.end,
-        flags,
-        two.first,
-    )
+    let flags = flagged(0, 0, glo.is_some(), 0 < name);
+    close(p, nodes::FN, from, mark.start, mark.end, flags, two.first)
 }
 
 // The same without a name, once its function is built.
-pub fn nameless(nodes: &mut [u32], from: u32, read: Built) -> Built
-    ensures { (e x l : List ℕ) → as_built result (world nodes.new e x l) ≡ bind (as_built read (world nodes.old e x l)) (λ s w f. fn_record from ranged.Nowhere 0 f s w) }
+pub fn nameless(p: &mut Parser<'_>, from: u32, read: Result<u32, Stop>) -> Result<u32, Stop>
+    ensures ended { ended p.new result ≡ bind (ended p.old read) (λ s w f. fn_record from None 0 f s w) }
+    ensures lent { SameLists p.old p.new }
 {
-    match read {
-        Built::Node(s, link) => {
-            let nowhere = Ranged::Nowhere;
-            fn_record(nodes, s, from, nowhere, 0, link)
-        }
-        Built::Failed(f) => Built::Failed(f),
-    }
+    fn_record(p, from, None, 0, read?)
 }
 
-// A function or a closure over its parameters, the type that it returns and its body.
+// A function or a closure, by a flag as the rule is, over its parameters, the type that it returns and its body.
 pub fn function_record(
-    nodes: &mut [u32],
-    s: State,
+    p: &mut Parser<'_>,
     from: u32,
     closure: bool,
     items: Items,
     link: u32,
     body: u32,
-) -> Built
-    ensures { (e x l : List ℕ) → as_built result (world nodes.new e x l) ≡ function_record from closure items link body s (world nodes.old e x l) }
+) -> Result<u32, Stop>
+    ensures ended { ended p.new result ≡ run (function_record from closure items link body) p.old }
+    ensures lent { SameLists p.old p.new }
 {
     let row = items.kids;
-    let last = items.ended;
-    let flags = flagged(row.count, 0, is_ended(last), 0 < link);
-    let one = add_some(nodes, row, link);
-    let two = add(nodes, one, body);
+    let flags = flagged(row.count, 0, items.ended.is_some(), 0 < link);
+    let one = add_some(p, row, link);
+    let two = p.add(one, body);
     if closure {
-        return close(nodes, s, nodes::CLOSURE, from, 0, 0, flags, two.first);
+        return close(p, nodes::CLOSURE, from, 0, 0, flags, two.first);
     }
-    close(nodes, s, nodes::FUNCTION, from, 0, 0, flags, two.first)
+    close(p, nodes::FUNCTION, from, 0, 0, flags, two.first)
 }
 
 // A handler over the effect's name, its parameters and its body.
-pub fn handler_record(nodes: &mut [u32], s: State, from: u32, items: Items, body: u32) -> Built
-    ensures { (e x l : List ℕ) → as_built result (world nodes.new e x l) ≡ handler_record from items body s (world nodes.old e x l) }
+pub fn handler_record(p: &mut Parser<'_>, from: u32, items: Items, body: u32) -> Result<u32, Stop>
+    ensures ended { ended p.new result ≡ run (handler_record from items body) p.old }
+    ensures lent { SameLists p.old p.new }
 {
     let row = items.kids;
-    let last = items.ended;
-    let flags = flagged(row.count, 0, is_ended(last), false);
-    let all = add(nodes, row, body);
-    close(
-        nodes,
-        s,
-        nodes::EFFECT_HANDLER,
-        from,
-        0,
-        0,
-        flags,
-        all.first,
-    )
+    let flags = flagged(row.count, 0, items.ended.is_some(), false);
+    let all = p.add(row, body);
+    close(p, nodes::EFFECT_HANDLER, from, 0, 0, flags, all.first)
 }
 
 // A Call's flags once its handlers are counted; its range does not grow.
-pub fn handlers_flagged(nodes: &mut [u32], link: u32, called: Called, handlers: u32)
-    ensures { (s : State) (e x l : List ℕ) → done s (world nodes.new e x l) tt ≡ handlers_flagged link called handlers s (world nodes.old e x l) }
+pub fn handlers_flagged(p: &mut Parser<'_>, link: u32, called: Called, handlers: u32)
+    ensures ended { ended p.new (Ok (tt {0})) ≡ run (handlers_flagged link called handlers) p.old }
+    ensures lent { SameLists p.old p.new }
 {
     let flags = flagged(called.arguments, handlers, called.lambda, false);
-    reflag(nodes, link, flags)
+    p.reflag(link, flags);
 }
 
 // `if` over its test, its block and what stands behind `else`, where something does.
-pub fn if_record(nodes: &mut [u32], from: u32, kids: Kids, read: Built) -> Built
-    ensures { (e x l : List ℕ) → as_built result (world nodes.new e x l) ≡ bind (as_built read (world nodes.old e x l)) (λ s w a. if_record from kids a s w) }
+pub fn if_record(
+    p: &mut Parser<'_>,
+    from: u32,
+    kids: Kids,
+    read: Result<u32, Stop>,
+) -> Result<u32, Stop>
+    ensures ended { ended p.new result ≡ bind (ended p.old read) (λ s w a. if_record from kids a s w) }
+    ensures lent { SameLists p.old p.new }
 {
-    match read {
-        Built::Node(s, link) => {
-            let flags = flagged(0, 0, 0 < link, false);
-            let all = add_some(nodes, kids, link);
-            close(nodes, s, nodes::IF, from, 0, 0, flags, all.first)
-        }
-        Built::Failed(f) => Built::Failed(f),
-    }
+    let link = read?;
+    let flags = flagged(0, 0, 0 < link, false);
+    let all = add_some(p, kids, link);
+    close(p, nodes::IF, from, 0, 0, flags, all.first)
 }
 
 // `loop` over its block, once that is read.
-pub fn loop_record(nodes: &mut [u32], from: u32, read: Built) -> Built
-    ensures { (e x l : List ℕ) → as_built result (world nodes.new e x l) ≡ bind (as_built read (world nodes.old e x l)) (λ s w b. close node.Loop from 0 0 0 b s w) }
+pub fn loop_record(p: &mut Parser<'_>, from: u32, read: Result<u32, Stop>) -> Result<u32, Stop>
+    ensures ended { ended p.new result ≡ bind (ended p.old read) (λ s w b. close node.Loop from 0 0 0 b s w) }
+    ensures lent { SameLists p.old p.new }
 {
-    match read {
-        Built::Node(s, link) => close(nodes, s, nodes::LOOP, from, 0, 0, 0, link),
-        Built::Failed(f) => Built::Failed(f),
-    }
+    close(p, nodes::LOOP, from, 0, 0, 0, read?)
 }
 
 // `while` or `for` over its names, its expression and its block.
 pub fn round_record(
-    nodes: &mut [u32],
-    s: State,
+    p: &mut Parser<'_>,
     from: u32,
-    which: usize,
+    form: Form,
     names: u32,
     kids: Kids,
-) -> Built
-    ensures { (e x l : List ℕ) → as_built result (world nodes.new e x l) ≡ round_record from which names kids s (world nodes.old e x l) }
+) -> Result<u32, Stop>
+    ensures ended { ended p.new result ≡ run (round_record from (place form) names kids) p.old }
+    ensures lent { SameLists p.old p.new }
 {
-    if which == forms::WHILE {
-        return close(nodes, s, nodes::WHILE, from, 0, 0, 0, kids.first);
+    match form {
+        Form::While => close(p, nodes::WHILE, from, 0, 0, 0, kids.first),
+        _ => {
+            let flags = flagged(names, 0, false, false);
+            close(p, nodes::FOR, from, 0, 0, flags, kids.first)
+        }
     }
-    let flags = flagged(names, 0, false, false);
-    close(nodes, s, nodes::FOR, from, 0, 0, flags, kids.first)
 }
 
 // A Call over its callee, its arguments and its trailing lambda, where it has one.
-pub fn call_record(nodes: &mut [u32], s: State, from: u32, kids: Kids, lambda: u32) -> Chained
-    ensures { (e x l : List ℕ) → as_chained result (world nodes.new e x l) ≡ call_record from kids lambda s (world nodes.old e x l) }
+pub fn call_record(
+    p: &mut Parser<'_>,
+    from: u32,
+    kids: Kids,
+    lambda: u32,
+) -> Result<ControlFlow<Expr, Expr>, Stop>
+    ensures ended { ended p.new (as_turn result) ≡ run (call_record from kids lambda) p.old }
+    ensures lent { SameLists p.old p.new }
 {
     let trailing = 0 < lambda;
     let arguments = kids.count;
     let flags = flagged(arguments, 0, trailing, false);
-    let all = add_some(nodes, kids, lambda);
-    let built = close(nodes, s, nodes::CALL, from, 0, 0, flags, all.first);
-    match built {
-        Built::Node(t, link) => {
-            let open = Kids {
-                first: all.first,
-                last: all.last,
-                count: 0,
-            };
-            let called = Called {
-                kids: open,
-                arguments,
-                lambda: trailing,
-            };
-            Chained::More(t, Expr::Call(link, called))
-        }
-        Built::Failed(f) => Chained::Failed(f),
-    }
+    let all = add_some(p, kids, lambda);
+    let link = close(p, nodes::CALL, from, 0, 0, flags, all.first)?;
+    let called = Called {
+        kids: Kids { count: 0, ..all },
+        arguments,
+        lambda: trailing,
+    };
+    Ok(ControlFlow::Continue(Expr::Call(link, called)))
 }
 
-// A member of an expression, by the place of its opening token and by whether it is a meta member, which has no property. On a plain name and
+// A member of an expression, by its opening token and by whether it is a meta member, which has no property. On a plain name and
 // without `?` it may be assigned to.
 pub fn member_record(
-    nodes: &mut [u32],
-    s: State,
+    p: &mut Parser<'_>,
     from: u32,
     x: Expr,
-    safe: Ranged,
-    which: usize,
+    safe: Option<Span>,
+    opening: Opening,
     meta: bool,
     link: u32,
-) -> Chained
-    ensures { (e y l : List ℕ) → as_chained result (world nodes.new e y l) ≡ member_record from safe (member_at which meta) x link s (world nodes.old e y l) }
+) -> Result<ControlFlow<Expr, Expr>, Stop>
+    ensures ended { ended p.new (as_turn result) ≡ run (member_record from safe (member_at (opens opening) meta) x link) p.old }
+    ensures lent { SameLists p.old p.new }
 {
-    let one = add(nodes, NO_KIDS, link_of(x));
-    let all = add_some(nodes, one, link);
+    let one = p.add(NO_KIDS, x.link());
+    let all = add_some(p, one, link);
     let mark = span_of(safe);
-    let flags = flagged(member_at(which, meta), 0, is_ended(safe), false);
-    let built = close(
-        nodes,
-        s,
+    let flags = flagged(member_at(opening, meta), 0, safe.is_some(), false);
+    let member = close(
+        p,
         nodes::MEMBER,
         from,
         mark.start,
         mark.end,
         flags,
         all.first,
-    );
-    match built {
-        Built::Node(t, m) => Chained::More(t, member_of(x, safe, m)),
-        Built::Failed(f) => Chained::Failed(f),
-    }
+    )?;
+    Ok(ControlFlow::Continue(member_of(x, safe, member)))
 }
 
 // Rust's MemberKind, as docs/LAYOUT.md numbers it: the three meta ones stand behind the three others.
-fn member_at(which: usize, meta: bool) -> u32
-    ensures { result ≡ member_at which meta }
+fn member_at(opening: Opening, meta: bool) -> u32
+    ensures { result ≡ member_at (opens opening) meta }
 {
-    if 2 < which {
-        return 0;
-    }
-    let place = which as u32;
-    if meta {
-        return place + 3;
-    }
-    place
+    let plain = opening as u32;
+    if meta { plain + 3 } else { plain }
 }
 
-fn member_of(x: Expr, safe: Ranged, link: u32) -> Expr
+fn member_of(x: Expr, safe: Option<Span>, link: u32) -> Expr
     ensures { result ≡ member_of x safe link }
 {
-    match safe {
-        Ranged::At(_) => Expr::Other(link),
-        Ranged::Nowhere => match x {
-            Expr::Name(_) => Expr::NameMember(link),
-            Expr::NameMember(_) => Expr::Other(link),
-            Expr::Call(_, _) => Expr::Other(link),
-            Expr::Other(_) => Expr::Other(link),
-        },
+    match (safe, x) {
+        (None, Expr::Name(_)) => Expr::NameMember(link),
+        _ => Expr::Other(link),
     }
 }

@@ -5,7 +5,7 @@ use mathlib.Core.List.{List, [], ◌∷◌}
 use Prim.Native.Nat.{ℕ}
 use native.Mathlib.Omega.{arith}
 use denote.MutBor.{MutBor}
-use Rattle.pieces.specs.declared.Piece.TheVariants as piece
+use Rattle.std.specs.Prelude.{Some}
 use Rattle.pieces.proofs.word.Reads as word
 use Rattle.pieces.proofs.read.Reads as read
 
@@ -20,8 +20,8 @@ word-highest-first κs x p = absurd (omega (arith, p))
 pub word-of-three-bytes : (κs : _) (x : _) → word.Post κs (1, (0, (0, (1, tt)))) 1 x → ⊥
 word-of-three-bytes κs x p = absurd (omega (arith, p))
 
-pub read-without-room : (κs : _) (x : _) → read.Post κs (lent [], tt) (piece.Bytes 1) x → ⊥
-read-without-room κs x p = absurd (omega (arith, p))
+pub read-without-room : (T : _) (L : _) (R : _) (D : _) (κs : _) (input : _) (x : _) → read.Post T L R D κs (input, (lent [], tt)) (Some 1) x → ⊥
+read-without-room T L R D κs input x p = absurd (omega (arith, p.0))
 
-pub read-a-byte-too-many : (κs : _) (x : _) → read.Post κs (lent (0 ∷ 0 ∷ []), tt) (piece.Bytes 3) x → ⊥
-read-a-byte-too-many κs x p = absurd (omega (arith, p))
+pub read-a-byte-too-many : (T : _) (L : _) (R : _) (D : _) (κs : _) (input : _) (x : _) → read.Post T L R D κs (input, (lent (0 ∷ 0 ∷ []), tt)) (Some 3) x → ⊥
+read-a-byte-too-many T L R D κs input x p = absurd (omega (arith, p.0))

@@ -3,34 +3,36 @@
 #![tactic(auto)]
 
 use answer::answer;
-use pieces::Piece;
+use listing::LENT_OUT;
+use std::io;
+use std::io::Write;
 
-// A function of its own: how long an array that was lent is, is known only where a parameter has its type.
-fn print_listing(out: &[u8; 262144], end: usize) {
-    pieces::write(out, end);
-}
-
-// Reads one piece into the room for it and writes its listing; false at the end of the stream.
-fn replay(room: &mut [u8]) -> bool {
-    let piece = pieces::read(room);
-    let Piece::Bytes(n) = piece else {
-        return false;
-    };
-    let mut out = [0u8; 262144];
-    let end = answer(&room[..n], &mut out);
-    print_listing(&out, end);
-    true
-}
+// One byte more than the largest bundle that has an answer of its own, so that a larger one is seen to be.
+const ROOM: usize = 29893;
 
 // At most so many pieces.
-fn main() {
-    let mut room = [0u8; 29893];
-    let mut i: u32 = 0;
-    while i < 65536 {
-        if !replay(&mut room) {
+const PIECES: u32 = 65536;
+
+// Writes the listing of a bundle.
+fn list(output: &mut impl Write, bundle: &[u8]) -> io::Result<()> {
+    let mut out = [0u8; LENT_OUT];
+    let end = answer(bundle, &mut out);
+    pieces::write(output, out.get(..end).unwrap_or_default())
+}
+
+// The same loop as in `words`: a function for both would take the answer to a piece as a closure, of whose writing its contract could say
+// nothing.
+fn main(rt: HostRuntime) -> io::Result<()> {
+    let mut input = rt.reader();
+    let mut output = io::writer(&rt);
+    let mut room = [0u8; ROOM];
+    let mut count = 0;
+    for number in 1..=PIECES {
+        let Some(n) = pieces::read(&mut input, &mut room) else {
             break;
-        }
-        i += 1;
+        };
+        list(&mut output, &room[..n])?;
+        count = number;
     }
-    pieces::write_count(i);
+    pieces::write_count(rt.alloc(), &mut output, count)
 }

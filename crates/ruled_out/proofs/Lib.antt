@@ -1,3 +1,5 @@
+pub mod AnyRule
+pub mod AnyNumber
 pub mod Small
 pub mod Exprs
 pub mod Suffix

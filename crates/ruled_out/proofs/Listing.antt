@@ -4,9 +4,8 @@ use mathlib.Core.List.{List, [], ◌∷◌}
 use Prim.Native.Nat.{ℕ, suc}
 use lib.ListN.{replicate}
 use denote.Ref.{MutBor}
-use Rattle.listing.specs.declared.bundle.Decoded.TheVariants as decoded
+use Rattle.std.specs.Prelude.{Some, None}
 use Rattle.listing.specs.declared.list.Counts.{Counts}
-use Rattle.listing.specs.declared.list.Listed.TheVariants as listed
 use Rattle.listing.specs.Decimal.{digits_in, digits, decimal}
 use Rattle.listing.specs.Lines.{fields, found, error_line, first_line, refusal_line}
 use Rattle.listing.specs.Listing.{row_lines, node_lines, errors_from, error_lines, listing_of}
@@ -31,16 +30,16 @@ abbrev size : Outcome → ℕ
 size (wrote n out) = suc n
 size (short out) = 0
 
-pub listing-cut-off : (κs : _) (x : _) → listing.Post κs (blank, (blank, (blank, (bytes 31, (counts, tt))))) (listed.Written 31) x → ⊥
+pub listing-cut-off : (κs : _) (x : _) → listing.Post κs (blank, (blank, (blank, (bytes 31, (counts, tt))))) (Some 31) x → ⊥
 unfolding written listing_of first_line node_lines row_lines error_lines errors_from fields decimal digits digits_in
 listing-cut-off κs x p = apart size p refl
 
-pub listing-wants-a-byte-more : (κs : _) (x : _) → listing.Post κs (blank, (blank, (blank, (bytes 32, (counts, tt))))) listed.NoRoom x → ⊥
+pub listing-wants-a-byte-more : (κs : _) (x : _) → listing.Post κs (blank, (blank, (blank, (bytes 32, (counts, tt))))) None x → ⊥
 unfolding written listing_of first_line node_lines row_lines error_lines errors_from fields decimal digits digits_in
 listing-wants-a-byte-more κs x p = apart size p refl
 
 -- `error 7 0 1` too, 12 bytes
-pub listing-first-error-left-out : (κs : _) (x : _) → listing.Post κs (blank, (lent (0 ∷ 7 ∷ 0 ∷ 1 ∷ 0 ∷ 0 ∷ []), (blank, (bytes 44, (record { reads = 0; nodes = 0; errors = 1 }, tt))))) (listed.Written 32) x → ⊥
+pub listing-first-error-left-out : (κs : _) (x : _) → listing.Post κs (blank, (lent (0 ∷ 7 ∷ 0 ∷ 1 ∷ 0 ∷ 0 ∷ []), (blank, (bytes 44, (record { reads = 0; nodes = 0; errors = 1 }, tt))))) (Some 32) x → ⊥
 unfolding written listing_of first_line node_lines row_lines error_lines errors_from error_line found fields decimal digits digits_in
 listing-first-error-left-out κs x p = apart size p refl
 
@@ -55,11 +54,11 @@ unfolding written listing_of first_line node_lines row_lines error_lines errors_
 lent-listing-all-its-room κs x p = apart size p refl
 
 -- `refused 9`
-pub refusal-without-its-newline : (κs : _) (x : _) → refusal.Post κs (bytes 10, (9, tt)) (listed.Written 9) x → ⊥
+pub refusal-without-its-newline : (κs : _) (x : _) → refusal.Post κs (bytes 10, (9, tt)) (Some 9) x → ⊥
 unfolding written refusal_line fields decimal digits digits_in
 refusal-without-its-newline κs x p = apart size p refl
 
-pub refusal-wants-a-byte-more : (κs : _) (x : _) → refusal.Post κs (bytes 10, (9, tt)) listed.NoRoom x → ⊥
+pub refusal-wants-a-byte-more : (κs : _) (x : _) → refusal.Post κs (bytes 10, (9, tt)) None x → ⊥
 unfolding written refusal_line fields decimal digits digits_in
 refusal-wants-a-byte-more κs x p = apart size p refl
 
@@ -71,11 +70,11 @@ taken (sheet n m text tokens) = 1
 taken (refused text tokens) = 0
 
 -- nothing at all
-pub decode-empty-bundle : (κs : _) (x : _) → decode.Post κs (blank, (blank_mut, (blank_mut, tt))) (decoded.Sheet 0 0) x → ⊥
+pub decode-empty-bundle : (κs : _) (x : _) → decode.Post κs (blank, (blank_mut, (blank_mut, tt))) (Some (record { text = 0; tokens = 0 })) x → ⊥
 unfolding decoded_into fits
-decode-empty-bundle κs x p = apart taken p refl
+decode-empty-bundle κs x p = apart taken p.1 refl
 
 -- one byte of text and no token
-pub decode-highest-byte-first : (κs : _) (x : _) → decode.Post κs (lent (1 ∷ 0 ∷ 0 ∷ 0 ∷ 97 ∷ 0 ∷ 0 ∷ 0 ∷ 0 ∷ []), (lent_mut (0 ∷ []), (blank_mut, tt))) decoded.Refused x → ⊥
+pub decode-highest-byte-first : (κs : _) (x : _) → decode.Post κs (lent (1 ∷ 0 ∷ 0 ∷ 0 ∷ 97 ∷ 0 ∷ 0 ∷ 0 ∷ 0 ∷ []), (lent_mut (0 ∷ []), (blank_mut, tt))) None x → ⊥
 unfolding decoded_into fits little
-decode-highest-byte-first κs x p = apart taken p refl
+decode-highest-byte-first κs x p = apart taken p.1 refl

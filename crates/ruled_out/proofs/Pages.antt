@@ -4,32 +4,31 @@ use mathlib.Core.Path.{◌≡◌, refl}
 use mathlib.Core.List.{List, [], ◌∷◌}
 use Prim.Native.Nat.{ℕ, ◌+◌, ◌-◌, ◌*◌, ◌^◌, min}
 use lib.ListN.{length, get_or, replicate}
+use Rattle.std.specs.Prelude.{Option, Some, None}
 use Rattle.kinds.specs.Number as kind
 use Rattle.kinds.specs.Listing.{name_bytes, place_of}
 use Rattle.cursor.specs.declared.Label.{Label}
 use Rattle.cursor.specs.Buffer.{put}
 use Rattle.cursor.specs.Node as node
 use Rattle.cursor.specs.Tree as tree
-use Rattle.listing.specs.declared.page.Pen.{Pen}
-use Rattle.listing.specs.declared.names.Word.{Word}
-use Rattle.listing.specs.declared.names.Word.TheVariants as words
-use Rattle.listing.specs.Page.{Page, page, emit, emits}
+use Rattle.listing.specs.declared.page.Page.{Page}
+use Rattle.listing.specs.Page.{emit, emits}
 use Rattle.listing.specs.Decimal.{digits_in, digits, decimal, integer}
 use Rattle.listing.specs.Names.{record_name, detail_name, letters, name_from, word_of}
 use Rattle.listing.specs.Lines.{fields, detail, node_line, found, error_line, first_line}
 use Rattle.listing.specs.Listing.{rows, row_lines, node_lines}
-use Rattle.ruled_out.proofs.Small.{apart, unlike, itself}
+use Rattle.ruled_out.proofs.Small.{lent_mut, apart, unlike, itself}
 
--- a pen in a buffer of 40 bytes, and the buffer
-abbrev pen : ℕ → Pen
-pen at = record { at = at; room = 40 }
+-- a page of 40 bytes that holds this, with its next byte there; and blank bytes
+abbrev page : List ℕ → ℕ → Page
+page xs at = record { out = lent_mut xs; at = at; room = 40 }
 
 abbrev out : List ℕ
 out = replicate 40 0
 
--- the contract of a function that writes: so many bytes, from one place of the pen to another, leave this in the buffer
+-- the contract of a function that writes: so many bytes, from one place of the page to another, leave this in the buffer
 abbrev Puts : List ℕ → ℕ → ℕ → List ℕ → Type 0
-Puts bs from to left = page left (pen to) ≡ emits bs (page out (pen from))
+Puts bs from to left = page left to ≡ emits bs (page out from)
 
 -- the contracts of the others, as functions of what they are handed and answer
 abbrev WordAt : List ℕ → ℕ → ℕ → Type 0
@@ -41,15 +40,15 @@ Within count room r = r ≡ min count room
 abbrev RecordPlace : ℕ → ℕ → Type 0
 RecordPlace k r = name_from r ≡ record_name k
 
-abbrev DetailPlace : ℕ → ℕ → Word → Type 0
+abbrev DetailPlace : ℕ → ℕ → Option ℕ → Type 0
 DetailPlace k one r = word_of r ≡ detail_name k one
 
--- where the pen stands, and a byte of the buffer
+-- where the next byte goes, and a byte of the buffer
 abbrev place : Page → ℕ
-place p = p.pen.at
+place p = p.at
 
 abbrev byte : ℕ → Page → ℕ
-byte i p = get_or p.out i 0
+byte i p = get_or p.out.now i 0
 
 -- bytes and numbers
 
@@ -109,11 +108,11 @@ pub record-place-of-no-record : RecordPlace 0 (place_of "Int") → ⊥
 unfolding name_from letters name_bytes record_name
 record-place-of-no-record p = apart length p refl
 
-pub detail-place-of-not-left-out : DetailPlace node.Unary kind.Not words.Nothing → ⊥
+pub detail-place-of-not-left-out : DetailPlace node.Unary kind.Not None → ⊥
 unfolding detail_name
 detail-place-of-not-left-out p = apart length p refl
 
-pub detail-place-of-a-name : DetailPlace node.Ident 0 (words.At 0) → ⊥
+pub detail-place-of-a-name : DetailPlace node.Ident 0 (Some 0) → ⊥
 unfolding detail_name
 detail-place-of-a-name p = apart length p refl
 

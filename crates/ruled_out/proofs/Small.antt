@@ -1,30 +1,24 @@
--- What the wrong answers share: small states and lent buffers, and how the ends of rules are told apart. Assumes nothing.
-use mathlib.Core.Path.{◌≡◌, ap, sym, ◌∙◌}
-use mathlib.Core.List.{List, []}
-use mathlib.Core.Bool.{false}
-use Prim.Native.Nat.{ℕ}
+-- What the wrong answers share: small sheets, parsers and states that are lent, and how the ends of rules are told apart. Assumes nothing.
+use Rattle.std.proofs.Common.{◌≡◌, ℕ, false, eqb, List, [], get_or, ap, sym, ◌∙◌, Bor, MutBor}
 use borrow.Author.Tests.{eqb-false}
-use lib.Dec.{eqb}
-use lib.ListN.{get_or, replicate}
-use denote.Ref.{Bor, MutBor}
+use lib.ListN.{replicate}
 use Rattle.cursor.specs.declared.State.{State}
 use Rattle.cursor.specs.declared.Limits.{Limits}
+use Rattle.cursor.specs.declared.Sheet.{Sheet}
+use Rattle.cursor.specs.declared.Parser.{Parser}
 use Rattle.cursor.specs.declared.Span.{Span}
 use Rattle.cursor.specs.declared.Kids.{Kids}
 use Rattle.parts.specs.declared.values.Expr.{Expr}
 use Rattle.parts.specs.declared.values.Expr.TheVariants as sorts
-use Rattle.cursor.specs.Rule.{begin, fault, refused, Out, done, failed}
+use Rattle.cursor.specs.Rule.{world, begin, fault, refused, Out, done, failed}
+use Rattle.cursor.proofs.Told.{held_by, stands_by}
 
--- a slice or an array that is lent, by what it holds, and one that is lent to be written
+-- a slice that is lent, by what it holds, and one that is lent to be written
 abbrev pub lent : List ℕ → Bor (List ℕ)
 lent xs = record { ref_ptr = (0, 0); now = xs }
 
 abbrev pub lent_mut : List ℕ → MutBor (List ℕ)
 lent_mut xs = record { ref_ptr = (0, 0); ghost_name = 0; now = xs }
-
--- room for three node records
-abbrev pub room : MutBor (List ℕ)
-room = lent_mut (replicate 24 0)
 
 -- a buffer that no one writes to here, or whose contents are not asked for
 abbrev pub blank : Bor (List ℕ)
@@ -36,6 +30,25 @@ blank_mut = lent_mut []
 -- readings enough for every sheet here
 abbrev pub limits : Limits
 limits = record { allowance = 9 }
+
+-- a sheet that is lent, by its text and its tokens; and one whose text is not asked for
+abbrev pub spelled : List ℕ → List ℕ → Bor Sheet
+spelled text tokens = record { ref_ptr = (0, 0); now = record { text = lent text; tokens = lent tokens; limits = limits } }
+
+abbrev pub sheet : List ℕ → Bor Sheet
+sheet tokens = spelled [] tokens
+
+-- a parser that is lent, by its node records, its error records and where it stands, with nothing in its other buffers; and one with room for three
+-- node records
+abbrev pub over : List ℕ → List ℕ → State → MutBor Parser
+over nodes errors s = record { ref_ptr = (0, 0); ghost_name = 0; now = record { nodes = lent_mut nodes; errors = lent_mut errors; expected = lent_mut []; live = []; state = s } }
+
+abbrev pub parser : State → MutBor Parser
+parser s = over (replicate 24 0) [] s
+
+-- the same, lent to be read
+abbrev pub seen : State → Bor Parser
+seen s = record { ref_ptr = (0, 0); now = (parser s).now }
 
 -- a state: the place, the end before it, the readings, the node records, and the live list's length
 abbrev pub state : ℕ → ℕ → ℕ → ℕ → ℕ → State
@@ -57,22 +70,22 @@ pub unlike : {A : Type 0} {a b : A} {n : ℕ} (f : A → ℕ) → a ≡ b → f 
 unlike {b = b} {n = n} f p h q = eqb-false (f b) n q (sym (ap f p) ∙ h)
 
 -- of the end of a rule: 0 where it is done, 1 for a fault, else the refusal
-abbrev pub ended : {A : Type 0} → Out A → ℕ
-ended (done s w a) = 0
-ended (failed (fault s w f)) = 1
-ended (failed (refused f)) = f.number
+abbrev pub outcome : {A : Type 0} → Out A → ℕ
+outcome (done s w a) = 0
+outcome (failed (fault s w f)) = 1
+outcome (failed (refused n)) = n
 
--- the state that it leaves
+-- where it leaves the parser
 abbrev pub left : {A : Type 0} → Out A → State
-left (done s w a) = s
-left (failed (fault s w f)) = s
-left (failed (refused f)) = begin
+left o = stands_by begin o
+
+-- a rule does not leave the parser where a number tells that it stands elsewhere
+pub strays : {A : Type 0} {a b : Out A} {s : State} (f : State → ℕ) → a ≡ b → left a ≡ s → eqb (f s) (f (left b)) ≡ false → ⊥
+strays {b = b} {s = s} f p h q = eqb-false (f s) (f (left b)) q (ap f (sym h) ∙ ap (λ o. f (left o)) p)
 
 -- a word of the node buffer that it leaves
 abbrev pub word : {A : Type 0} → ℕ → Out A → ℕ
-word i (done s w a) = get_or w.nodes i 0
-word i (failed (fault s w f)) = get_or w.nodes i 0
-word i (failed (refused f)) = 0
+word i o = get_or (held_by (world [] [] [] []) o).nodes i 0
 
 -- what it answers, by a number for each answer
 abbrev pub answer : {A : Type 0} → (A → ℕ) → Out A → ℕ

@@ -1,4 +1,5 @@
 -- Each way through the rules on atoms, as the code goes through them.
+use Rattle.std.specs.Prelude.{None}
 use mathlib.Core.Path.{◌≡◌}
 use mathlib.Core.Bool.{Bool, true, false}
 use Prim.Native.Nat.{ℕ, ◌<◌, ◌≤◌}
@@ -6,7 +7,6 @@ use borrow.Author.Tests.{eq-eqb, ne_eqb, lt-ltb, le-ltb}
 use Rattle.kinds.specs.Number as kind
 use Rattle.cursor.specs.declared.State.{State}
 use Rattle.cursor.specs.declared.Kids.{Kids}
-use Rattle.cursor.specs.declared.Ranged.TheVariants as ranged
 use Rattle.cursor.specs.Node as node
 use Rattle.cursor.specs.Sheet.{range_at}
 use Rattle.cursor.specs.Rule.{World, Stop, Out, done, failed, bind, more, stop, iterate}
@@ -63,7 +63,7 @@ module _ (r : Inner) where
             group-paren a = rw p (rw (ne_eqb _ _ t) (rw q (rw (ne_eqb _ _ u) (rw a))))
 
     -- a function without a name: what is read of it goes into its expression
-    pub anon-closure : {o : Out ℕ} → which ≡ forms.VBar → o ≡ function r from true s w → anon r from which s w ≡ bind o (λ s1 w1 f. fn_record from ranged.Nowhere 0 f s1 w1)
+    pub anon-closure : {o : Out ℕ} → which ≡ forms.VBar → o ≡ function r from true s w → anon r from which s w ≡ bind o (λ s1 w1 f. fn_record from None 0 f s1 w1)
     unfolding anon anon_function
     anon-closure t a = rw a (rw (eq-eqb _ _ t, anon_function))
 
@@ -73,7 +73,7 @@ module _ (r : Inner) where
       anon-spent p = rw (ne_eqb _ _ t, anon_function) (rw p)
 
       module _ {s1 : State} {w1 : World} (p : bump r.sheet s w ≡ done s1 w1 tt) where
-        pub anon-fn : {o : Out ℕ} → which ≡ forms.Fn → o ≡ function r from false s1 w1 → anon r from which s w ≡ bind o (λ s2 w2 f. fn_record from ranged.Nowhere 0 f s2 w2)
+        pub anon-fn : {o : Out ℕ} → which ≡ forms.Fn → o ≡ function r from false s1 w1 → anon r from which s w ≡ bind o (λ s2 w2 f. fn_record from None 0 f s2 w2)
         unfolding anon anon_function
         anon-fn u a = rw a (rw (ne_eqb _ _ t, anon_function) (rw p (rw (eq-eqb _ _ u))))
 
@@ -82,7 +82,7 @@ module _ (r : Inner) where
           unfolding anon anon_function do_function
           anon-failed q = rw (ne_eqb _ _ t, anon_function) (rw p (rw (ne_eqb _ _ u) (rw q)))
 
-          pub anon-do : {o : Out ℕ} {body : ℕ} {s2 : State} {w2 : World} → block r 0 s1 w1 ≡ done s2 w2 body → o ≡ close node.Do from 0 0 0 body s2 w2 → anon r from which s w ≡ bind o (λ s3 w3 f. fn_record from ranged.Nowhere 0 f s3 w3)
+          pub anon-do : {o : Out ℕ} {body : ℕ} {s2 : State} {w2 : World} → block r 0 s1 w1 ≡ done s2 w2 body → o ≡ close node.Do from 0 0 0 body s2 w2 → anon r from which s w ≡ bind o (λ s3 w3 f. fn_record from None 0 f s3 w3)
           unfolding anon anon_function do_function
           anon-do q a = rw a (rw (ne_eqb _ _ t, anon_function) (rw p (rw (ne_eqb _ _ u) (rw q))))
 
@@ -188,7 +188,7 @@ module _ (r : Inner) where
           unfolding case_turn
           turn-over b = rw p (rw q (rw a (rw b)))
 
-          pub turn_more : {longer : Kids} {s4 : State} {w4 w5 : World} → eat_eol r.sheet s3 w3 ≡ done s4 w4 tt → done s4 w5 longer ≡ add kids one s4 w4 → case_turn r kids s w ≡ done s4 w5 (more longer)
+          pub turn_more : {longer : Kids} {s4 s5 : State} {w4 w5 : World} → eat_eol r.sheet s3 w3 ≡ done s4 w4 tt → done s5 w5 longer ≡ add kids one s4 w4 → case_turn r kids s w ≡ done s5 w5 (more longer)
           unfolding case_turn
           turn_more b c = rw p (rw q (rw a (rw b (rw (← c)))))
 

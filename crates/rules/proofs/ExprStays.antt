@@ -1,19 +1,17 @@
 -- That the rules on blocks, functions, lists, atoms, calls, members and operators never move back, where those handed over do not, and which of
 -- them take a token (Stays).
+use Rattle.std.specs.Prelude.{Some, None, Option}
 use mathlib.Core.Path.{refl}
 use mathlib.Core.Bool.{Bool, true, false}
 use Prim.Native.Nat.{ℕ, ◌+◌}
 use lib.Dec.{ltb, eqb}
 use Rattle.kinds.specs.Number as kind
-use Rattle.kinds.specs.declared.operator.Operator.{Operator}
-use Rattle.kinds.specs.declared.operator.Operator.TheVariants as operators
+use Rattle.kinds.specs.declared.operator.BinOp.{BinOp}
 use Rattle.kinds.specs.Operators.{binary_of, precedence_of}
 use Rattle.cursor.specs.declared.Kids.{Kids}
 use Rattle.cursor.specs.declared.Span.{Span}
-use Rattle.cursor.specs.declared.Ranged.{Ranged}
-use Rattle.cursor.specs.declared.Ranged.TheVariants as ranged
+use Rattle.cursor.specs.Sheet.{Ranged, Sheet}
 use Rattle.cursor.specs.Node as node
-use Rattle.cursor.specs.Sheet.{Sheet}
 use Rattle.cursor.specs.Rule.{Rule}
 use Rattle.cursor.specs.Records.{no_kids}
 use Rattle.cursor.proofs.Chosen.{Every, all, ◌&◌, each}
@@ -176,15 +174,15 @@ module _ {r : Inner} (h : Stays r) where
 
   fn-opens : (from : ℕ) → Opens r.sheet (fn_expr r from)
   unfolding fn_expr
-  fn-opens from = bumps (binds (function-starts from false).stays (λ f _. fn-record-stays from ranged.Nowhere 0 f))
+  fn-opens from = bumps (binds (function-starts from false).stays (λ f _. fn-record-stays from None 0 f))
 
   closure-opens : (from : ℕ) → Opens r.sheet (closure_expr r from)
   unfolding closure_expr
-  closure-opens from = opens-first (opens (function-starts from true)) (λ f. fn-record-stays from ranged.Nowhere 0 f)
+  closure-opens from = opens-first (opens (function-starts from true)) (λ f. fn-record-stays from None 0 f)
 
   do-opens : (from : ℕ) → Opens r.sheet (do_expr r from)
   unfolding do_expr
-  do-opens from = bumps (binds (block-starts 0).stays (λ body _. binds (close-stays node.Do from 0 0 0 body) (λ f _. fn-record-stays from ranged.Nowhere 0 f)))
+  do-opens from = bumps (binds (block-starts 0).stays (λ body _. binds (close-stays node.Do from 0 0 0 body) (λ f _. fn-record-stays from None 0 f)))
 
   pub alternate-stays : Keeps ground Plain (alternate r)
   unfolding alternate
@@ -291,10 +289,10 @@ module _ {r : Inner} (h : Stays r) where
   unfolding operated
   operated-stays from lambda x k level = ifs (eqb k kind.Is) (type-check-stays r.sheet from x) (binds (h.prec (level + 1) lambda).stays (λ y _. binds (couple-stays node.Binary from k (link_of x) (link_of y)) (λ link _. gives tt)))
 
-  pub infix-by-stays : (from min : ℕ) (lambda : Bool) (x : Expr) (k : ℕ) (o : Operator) → Keeps ground Plain (infix_by r from min lambda x k o)
+  pub infix-by-stays : (from min : ℕ) (lambda : Bool) (x : Expr) (k : ℕ) (o : Option BinOp) → Keeps ground Plain (infix_by r from min lambda x k o)
   unfolding infix_by
-  infix-by-stays from min lambda x k (operators.Binary op) = ifs (ltb (precedence_of op) min) (gives tt) (thens (bump-keeps r.sheet) (operated-stays from lambda x k (precedence_of op)))
-  infix-by-stays from min lambda x k operators.Nothing = gives tt
+  infix-by-stays from min lambda x k (Some op) = ifs (ltb (precedence_of op) min) (gives tt) (thens (bump-keeps r.sheet) (operated-stays from lambda x k (precedence_of op)))
+  infix-by-stays from min lambda x k None = gives tt
 
   pub infix-turn-stays : (from min : ℕ) (lambda : Bool) (x : Expr) → Keeps ground Plain (infix_turn r from min lambda x)
   unfolding infix_turn

@@ -8,7 +8,7 @@ use Rattle.cursor.specs.declared.State.{State}
 use Rattle.cursor.specs.declared.Kids.{Kids}
 use Rattle.cursor.specs.Node as node
 use Rattle.cursor.specs.Sheet.{Sheet, range_at}
-use Rattle.cursor.specs.Rule.{World, Stop, refusal, refused, Out, done, failed, stop, iterate}
+use Rattle.cursor.specs.Rule.{World, Stop, refused, Out, done, failed, stop, iterate}
 use Rattle.cursor.specs.Tokens.{start_of, eat_eol}
 use Rattle.cursor.specs.Checks.{eat}
 use Rattle.cursor.specs.Records.{append, no_kids, flagged}
@@ -48,11 +48,11 @@ module _ (r : Inner) where
 
 -- no level is left
 module _ (e : Sheet) (d : ℕ) (s : State) (w : World) (p : d ≡ 0) where
-  pub body-none : (end : ℕ) → (knot e d).exprs end s w ≡ failed (refused (refusal 9))
+  pub body-none : (end : ℕ) → (knot e d).exprs end s w ≡ failed (refused 9)
   unfolding knot
   body-none end = rw p
 
-  pub prec-none : (min : ℕ) (lambda : Bool) → (knot e d).prec min lambda s w ≡ failed (refused (refusal 9))
+  pub prec-none : (min : ℕ) (lambda : Bool) → (knot e d).prec min lambda s w ≡ failed (refused 9)
   unfolding knot
   prec-none min lambda = rw p
 

@@ -1,4 +1,5 @@
 -- The rules by kinds are what the code does by places: each chain of checks once, by `chosen` of the cursor crate.
+use Rattle.std.specs.Prelude.{None}
 use mathlib.Core.Path.{◌≡◌, refl, ◌∙◌, ap, fun_ext}
 use mathlib.Core.List.{List, [], ◌∷◌}
 use mathlib.Core.Bool.{Bool, true, false}
@@ -10,10 +11,8 @@ use borrow.Author.Tests.{ne_eqb, lt-ltb, le-ltb}
 use Rattle.kinds.specs.Number as kind
 use Rattle.cursor.specs.declared.State.{State}
 use Rattle.cursor.specs.declared.Kids.{Kids}
-use Rattle.cursor.specs.declared.Ranged.{Ranged}
-use Rattle.cursor.specs.declared.Ranged.TheVariants as ranged
+use Rattle.cursor.specs.Sheet.{Ranged, range_at}
 use Rattle.cursor.specs.Node as node
-use Rattle.cursor.specs.Sheet.{range_at}
 use Rattle.cursor.specs.Rule.{World, Out, done, failed, Rule, bind, ◌>>=◌, ◌>>◌, give, if_so, Next}
 use Rattle.cursor.specs.Tokens.{bump}
 use Rattle.cursor.specs.Checks.{eat, expect, eat_range, pick}
@@ -161,7 +160,7 @@ module _ (r : Inner) where
   stmt_chain = kind.Import ∷ kind.Effect ∷ kind.Glo ∷ []
 
   abbrev pub stmt_by : ℕ → ℕ → Rule ℕ
-  stmt_by from which = when (eqb which 0) (import_stmt r.sheet from) (when (eqb which 1) (effect_stmt r.sheet r.type_atom from ranged.Nowhere) (when (eqb which 2) (glo r from) (assign r from)))
+  stmt_by from which = when (eqb which 0) (import_stmt r.sheet from) (when (eqb which 1) (effect_stmt r.sheet r.type_atom from None) (when (eqb which 2) (glo r from) (assign r from)))
 
   pub plain-placed : plain r ≡ (start r.sheet >>= (λ from. pick r.sheet stmt_chain >>= stmt_by from))
   unfolding plain
@@ -208,11 +207,11 @@ module _ (r : Inner) where
   module _ (from : ℕ) (s : State) (w : World) where
     fn-placed : fn_expr r from s w ≡ anon r from forms.Fn s w
     unfolding fn_expr anon anon_function
-    fn-placed = joined (bump r.sheet s w) (λ _. function r from false) (λ f. fn_record from ranged.Nowhere no_link f)
+    fn-placed = joined (bump r.sheet s w) (λ _. function r from false) (λ f. fn_record from None no_link f)
 
     do-placed : do_expr r from s w ≡ anon r from forms.Do s w
     unfolding do_expr anon anon_function do_function
-    do-placed = ap (λ k. (bump r.sheet >> k) s w) (fun_ext (λ s1. fun_ext (λ w1. joined (block r node.None s1 w1) (λ body. over node.Do from body) (λ f. fn_record from ranged.Nowhere no_link f)))) ∙ joined (bump r.sheet s w) (λ _. do_function r from) (λ f. fn_record from ranged.Nowhere no_link f)
+    do-placed = ap (λ k. (bump r.sheet >> k) s w) (fun_ext (λ s1. fun_ext (λ w1. joined (block r node.None s1 w1) (λ body. over node.Do from body) (λ f. fn_record from None no_link f)))) ∙ joined (bump r.sheet s w) (λ _. do_function r from) (λ f. fn_record from None no_link f)
 
     for-placed : for_expr r from s w ≡ loops r from forms.For s w
     unfolding for_expr loops loop_names round_record

@@ -1,4 +1,5 @@
 -- Each way through the rules on operators, unary forms and `try`, as the code goes through them.
+use Rattle.std.specs.Prelude.{Some, None}
 use mathlib.Core.Path.{◌≡◌, refl, ◌∙◌}
 use mathlib.Core.Bool.{Bool, true, false}
 use mathlib.Core.List.{[], ◌∷◌}
@@ -11,15 +12,13 @@ use borrow.Author.Tests.{eq-eqb, ne_eqb, lt-ltb, le-ltb}
 use Rattle.kinds.specs.Number as kind
 use Rattle.kinds.specs.declared.operator.BinOp.{BinOp}
 use Rattle.kinds.specs.declared.operator.BinOp.TheVariants as ops
-use Rattle.kinds.specs.declared.operator.Operator.TheVariants as operators
 use Rattle.kinds.specs.Operators.{binary_of, precedence_of}
 use Rattle.cursor.specs.declared.State.{State}
 use Rattle.cursor.specs.declared.Kids.{Kids}
 use Rattle.cursor.specs.declared.Fault.{Fault}
 use Rattle.cursor.specs.declared.Span.{Span}
-use Rattle.cursor.specs.declared.Ranged.{Ranged}
+use Rattle.cursor.specs.Sheet.{kind_at, range_at, Ranged}
 use Rattle.cursor.specs.Node as node
-use Rattle.cursor.specs.Sheet.{kind_at, range_at}
 use Rattle.cursor.specs.Rule.{World, Stop, fault, done, failed, more, stop, iterate}
 use Rattle.cursor.specs.Tokens.{start_of, bump}
 use Rattle.cursor.specs.Checks.{check, expect, pick}
@@ -75,16 +74,16 @@ module _ (r : Inner) where
     unfolding handler_turn
     turn-failed p = rw p
 
-    module _ {one : ℕ} {longer : Kids} {s1 : State} {w1 w2 : World} (p : handler r s w ≡ done s1 w1 one) (q : done s1 w2 longer ≡ add kids one s1 w1) where
-      pub turn-full : {x : Stop} → check r.sheet kind.With s1 w2 ≡ failed x → handler_turn r kids s w ≡ failed x
+    module _ {one : ℕ} {longer : Kids} {s1 s2 : State} {w1 w2 : World} (p : handler r s w ≡ done s1 w1 one) (q : done s2 w2 longer ≡ add kids one s1 w1) where
+      pub turn-full : {x : Stop} → check r.sheet kind.With s2 w2 ≡ failed x → handler_turn r kids s w ≡ failed x
       unfolding handler_turn
       turn-full a = rw p (rw (← q) (rw a))
 
-      pub turn_more : {s2 : State} {w3 : World} → check r.sheet kind.With s1 w2 ≡ done s2 w3 true → handler_turn r kids s w ≡ done s2 w3 (more longer)
+      pub turn_more : {s3 : State} {w3 : World} → check r.sheet kind.With s2 w2 ≡ done s3 w3 true → handler_turn r kids s w ≡ done s3 w3 (more longer)
       unfolding handler_turn
       turn_more a = rw p (rw (← q) (rw a))
 
-      pub turn-stop : {s2 : State} {w3 : World} → check r.sheet kind.With s1 w2 ≡ done s2 w3 false → handler_turn r kids s w ≡ done s2 w3 (stop longer)
+      pub turn-stop : {s3 : State} {w3 : World} → check r.sheet kind.With s2 w2 ≡ done s3 w3 false → handler_turn r kids s w ≡ done s3 w3 (stop longer)
       unfolding handler_turn
       turn-stop a = rw p (rw (← q) (rw a))
 
@@ -119,7 +118,7 @@ module _ (r : Inner) where
           unfolding tried tried_by
           tried-lost a = rw p (rw q (rw c (rw a)))
 
-          pub tried-on : {kids : Kids} {s3 : State} {w3 w4 : World} → iterate r.sheet (handler_turn r) called.kids s2 w2 ≡ done s3 w3 kids → done s3 w4 tt ≡ handlers_flagged link called kids.count s3 w3 → tried r lambda s w ≡ done s3 w4 (exprs.Other link)
+          pub tried-on : {kids : Kids} {s3 s4 : State} {w3 w4 : World} → iterate r.sheet (handler_turn r) called.kids s2 w2 ≡ done s3 w3 kids → done s4 w4 tt ≡ handlers_flagged link called kids.count s3 w3 → tried r lambda s w ≡ done s4 w4 (exprs.Other link)
           unfolding tried tried_by
           tried-on a b = rw p (rw q (rw c (rw a (rw (← b)))))
 
@@ -157,11 +156,11 @@ module _ (r : Inner) where
 
   -- one operator more
   module _ (from min : ℕ) (lambda : Bool) (x : Expr) (s : State) (w : World) {k : ℕ} (c : k ≡ kind_at r.sheet.tokens s.at) where
-    pub infix-none : binary_of k ≡ operators.Nothing → infix_turn r from min lambda x s w ≡ done s w (stop x)
+    pub infix-none : binary_of k ≡ None → infix_turn r from min lambda x s w ≡ done s w (stop x)
     unfolding infix_turn infix_by
     infix-none o = rw (← c) (rw (o, infix_by))
 
-    module _ {op : BinOp} {level : ℕ} (o : binary_of k ≡ operators.Binary op) (v : level ≡ precedence_of op) where
+    module _ {op : BinOp} {level : ℕ} (o : binary_of k ≡ Some op) (v : level ≡ precedence_of op) where
       pub infix-low : level < min → infix_turn r from min lambda x s w ≡ done s w (stop x)
       unfolding infix_turn infix_by
       infix-low t = rw (← c) (rw (o, infix_by) (rw (← v) (rw (lt-ltb _ _ t))))

@@ -5,7 +5,7 @@ use Prim.Native.Nat.{ℕ, ◌<◌, ◌≤◌}
 use borrow.Author.Tests.{lt-ltb, le-ltb}
 use Rattle.kinds.specs.Number as kind
 use Rattle.cursor.specs.declared.State.{State}
-use Rattle.cursor.specs.declared.Ranged.{Ranged}
+use Rattle.cursor.specs.Sheet.{Ranged}
 use Rattle.cursor.specs.Node as node
 use Rattle.cursor.specs.Rule.{World, Stop, done, failed}
 use Rattle.cursor.specs.Checks.{eat, expect, eat_range, pick}

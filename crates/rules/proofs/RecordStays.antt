@@ -1,4 +1,5 @@
 -- That the records of expressions, and the steps that lead back to no expression, never move back, and which of them take a token (Stays).
+use Rattle.std.specs.Prelude.{Some, None, Option}
 use mathlib.Core.Path.{refl}
 use mathlib.Core.Bool.{Bool}
 use Prim.Native.Nat.{ℕ, zero, suc, ◌<◌}
@@ -8,10 +9,8 @@ use Rattle.kinds.specs.Number as kind
 use Rattle.cursor.specs.declared.State.{State}
 use Rattle.cursor.specs.declared.Kids.{Kids}
 use Rattle.cursor.specs.declared.Span.{Span}
-use Rattle.cursor.specs.declared.Ranged.{Ranged}
-use Rattle.cursor.specs.declared.Ranged.TheVariants as ranged
+use Rattle.cursor.specs.Sheet.{Sheet, count, kind_at, range_at, Ranged}
 use Rattle.cursor.specs.Node as node
-use Rattle.cursor.specs.Sheet.{Sheet, count, kind_at, range_at}
 use Rattle.cursor.specs.Rule.{World, Rule}
 use Rattle.cursor.specs.Records.{no_kids}
 use Rattle.cursor.proofs.Ends.{Ends, ill, Any}
@@ -31,8 +30,6 @@ use Rattle.types.proofs.ItemKeeps.{lit-keeps, ident-keeps}
 use Rattle.types.proofs.TypeKeeps.{type-items-keep}
 use Rattle.parts.specs.declared.values.Called.{Called}
 use Rattle.parts.specs.declared.values.Expr.{Expr}
-use Rattle.parts.specs.declared.steps.Checked.{Checked}
-use Rattle.parts.specs.declared.steps.Checked.TheVariants as checked
 use Rattle.parts.specs.Values.{link_of}
 use Rattle.parts.specs.Records.{couple, row_record, list_record, wrapped, block_record, fn_record, function_kind, function_record, handler_record, handlers_flagged, if_record, call_record, member_record}
 use Rattle.parts.specs.Steps.{checked_type, any_params, braced, no_member, lit_key, paren_key_at, paren_key, name_turn, names, pattern_turn, case_patterns, type_checked, type_check_at, type_check}
@@ -93,8 +90,8 @@ module _ (e : Sheet) where
   -- a name, a literal
   ident-at-spends : (r : Ranged) → Spends e Plain (ident_at e r)
   unfolding ident_at
-  ident-at-spends (ranged.At r) = first-spends (expect-spends kind.Ident refl) (λ _. plain (append-keeps _ 0))
-  ident-at-spends ranged.Nowhere = unexpected-spends
+  ident-at-spends (Some r) = first-spends (expect-spends kind.Ident refl) (λ _. plain (append-keeps _ 0))
+  ident-at-spends None = unexpected-spends
 
   pub ident-starts : Starts e (ident e)
   unfolding ident
@@ -108,8 +105,8 @@ module _ (e : Sheet) where
 
   lit-at-feeds : (k : ℕ) (r : Ranged) → Feeds e Plain (lit_at e k r)
   unfolding lit_at
-  lit-at-feeds k (ranged.At r) = lit-from-feeds r (literal e.text k r)
-  lit-at-feeds k ranged.Nowhere = feeds unexpected-spends
+  lit-at-feeds k (Some r) = lit-from-feeds r (literal e.text k r)
+  lit-at-feeds k None = feeds unexpected-spends
 
   lit-spends : Spends e Plain (lit e)
   unfolding lit lit_at count
@@ -173,15 +170,15 @@ module _ (e : Sheet) where
     unfolding case_patterns
     case-patterns-stays = rounds pattern-turn-stays e no_kids
 
-  pub type-checked-stays : (from : ℕ) (x : Expr) (r : Span) (c : Checked) → Keeps ground Plain (type_checked e from x r c)
+  pub type-checked-stays : (from : ℕ) (x : Expr) (r : Span) (c : Option ℕ) → Keeps ground Plain (type_checked e from x r c)
   unfolding type_checked
-  type-checked-stays from x r (checked.Type n) = thens (bump-keeps e) (binds (close-stays node.TypeCheck from n _ 0 (link_of x)) (λ link _. gives tt))
-  type-checked-stays from x r checked.Unknown = unexpected-keeps e
+  type-checked-stays from x r (Some n) = thens (bump-keeps e) (binds (close-stays node.TypeCheck from n _ 0 (link_of x)) (λ link _. gives tt))
+  type-checked-stays from x r None = unexpected-keeps e
 
   pub type-check-at-stays : (from : ℕ) (x : Expr) (k : ℕ) (r : Ranged) → Keeps ground Plain (type_check_at e from x k r)
   unfolding type_check_at
-  type-check-at-stays from x k (ranged.At r) = type-checked-stays from x r (checked_type e.text k r)
-  type-check-at-stays from x k ranged.Nowhere = unexpected-keeps e
+  type-check-at-stays from x k (Some r) = type-checked-stays from x r (checked_type e.text k r)
+  type-check-at-stays from x k None = unexpected-keeps e
 
   pub type-check-stays : (from : ℕ) (x : Expr) → Keeps ground Plain (type_check e from x)
   unfolding type_check

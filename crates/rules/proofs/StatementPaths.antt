@@ -1,4 +1,5 @@
 -- Each way through the rules on statements and their parts: expressions as links, blocks, functions, assignments.
+use Rattle.std.specs.Prelude.{Some, None}
 use mathlib.Core.Path.{◌≡◌, refl, sym, ◌∙◌}
 use mathlib.Core.Bool.{Bool, true, false}
 use Prim.Native.Nat.{ℕ, ◌<◌, ◌≤◌}
@@ -14,11 +15,11 @@ use Rattle.cursor.specs.declared.State.{State}
 use Rattle.cursor.specs.declared.Kids.{Kids}
 use Rattle.cursor.specs.declared.Span.{Span}
 use Rattle.cursor.specs.declared.Fault.{Fault}
-use Rattle.cursor.specs.declared.Ranged.{Ranged}
-use Rattle.cursor.specs.declared.Ranged.TheVariants as ranged
+use Rattle.cursor.specs.declared.Parser.{Parser}
+use Rattle.cursor.specs.Answers.{run}
+use Rattle.cursor.specs.Sheet.{Ranged, range_at}
 use Rattle.cursor.specs.Node as node
-use Rattle.cursor.specs.Sheet.{range_at}
-use Rattle.cursor.specs.Rule.{World, world, Stop, fault, done, failed, give, more, stop, iterate}
+use Rattle.cursor.specs.Rule.{World, Stop, fault, done, failed, give, more, stop, iterate}
 use Rattle.cursor.specs.Tokens.{start_of, bump}
 use Rattle.cursor.specs.Checks.{check, expect, eat_range, pick, unexpected, unexpected_at}
 use Rattle.cursor.specs.Records.{add, flagged}
@@ -30,7 +31,6 @@ use Rattle.types.specs.Types.{type, returns, named, typed_ident}
 use Rattle.types.proofs.TypePaths.{starts}
 use Rattle.parts.specs.declared.values.Expr.{Expr}
 use Rattle.parts.specs.declared.values.Expr.TheVariants as exprs
-use Rattle.parts.specs.declared.values.AssignLeft.TheVariants as assigns
 use Rattle.parts.specs.contracts.values.Expr as told
 use Rattle.parts.specs.Values.{link_of, to_assign_left, row_with, uncounted}
 use Rattle.rules.specs.Inner.{Inner, expr}
@@ -80,7 +80,7 @@ module _ (r : Inner) where
       unfolding expr_and_block
       tested-failed q = rw p (rw q)
 
-      pub tested-on : {body : ℕ} {one two : Kids} {s2 : State} {w2 w3 w4 : World} → block r 0 s1 w1 ≡ done s2 w2 body → done s2 w3 one ≡ add kids link s2 w2 → done s2 w4 two ≡ add one body s2 w3 → expr_and_block r kids s w ≡ done s2 w4 two
+      pub tested-on : {body : ℕ} {one two : Kids} {s2 s3 s4 : State} {w2 w3 w4 : World} → block r 0 s1 w1 ≡ done s2 w2 body → done s3 w3 one ≡ add kids link s2 w2 → done s4 w4 two ≡ add one body s3 w3 → expr_and_block r kids s w ≡ done s4 w4 two
       unfolding expr_and_block
       tested-on q a b = rw p (rw q (rw (← a) (sym b)))
 
@@ -136,11 +136,11 @@ module _ (r : Inner) where
 
   -- an assignment, with an operator or without
   module _ (from sign : ℕ) (x : Expr) (s : State) (w : World) where
-    pub set-nothing : assigns.Nothing ≡ to_assign_left x → set r from sign x s w ≡ failed (fault s w (unexpected_at r.sheet s))
+    pub set-nothing : None ≡ to_assign_left x → set r from sign x s w ≡ failed (fault s w (unexpected_at r.sheet s))
     unfolding set set_to unexpected
     set-nothing p = rw (← p)
 
-    module _ {link : ℕ} (p : assigns.To link ≡ to_assign_left x) where
+    module _ {link : ℕ} (p : Some link ≡ to_assign_left x) where
       pub set-spent : {y : Stop} → bump r.sheet s w ≡ failed y → set r from sign x s w ≡ failed y
       unfolding set set_to
       set-spent q = rw (← p) (rw q)
@@ -194,21 +194,21 @@ module _ (r : Inner) where
     unfolding left_turn
     left-full p = rw p
 
-    pub left-stop : {s1 : State} {w1 : World} → eat_range r.sheet kind.Comma s w ≡ done s1 w1 ranged.Nowhere → left_turn r kids s w ≡ done s1 w1 (stop kids)
+    pub left-stop : {s1 : State} {w1 : World} → eat_range r.sheet kind.Comma s w ≡ done s1 w1 None → left_turn r kids s w ≡ done s1 w1 (stop kids)
     unfolding left_turn left_of
     left-stop p = rw p
 
-    module _ {comma : Span} {s1 : State} {w1 : World} (p : eat_range r.sheet kind.Comma s w ≡ done s1 w1 (ranged.At comma)) where
+    module _ {comma : Span} {s1 : State} {w1 : World} (p : eat_range r.sheet kind.Comma s w ≡ done s1 w1 (Some comma)) where
       pub left-failed : {y : Stop} → r.prec 1 true s1 w1 ≡ failed y → left_turn r kids s w ≡ failed y
       unfolding left_turn left_of
       left-failed q = rw p (rw q)
 
       module _ {x : Expr} {s2 : State} {w2 : World} (q : r.prec 1 true s1 w1 ≡ done s2 w2 x) where
-        pub left-wrong : {f : Fault} → assigns.Nothing ≡ to_assign_left x → f ≡ alone kind.Comma comma → left_turn r kids s w ≡ failed (fault s2 w2 f)
+        pub left-wrong : {f : Fault} → None ≡ to_assign_left x → f ≡ alone kind.Comma comma → left_turn r kids s w ≡ failed (fault s2 w2 f)
         unfolding left_turn left_of
         left-wrong b c = rw p (rw q (rw (← b) (rw c)))
 
-        pub left-more : {link : ℕ} {longer : Kids} {w3 : World} → assigns.To link ≡ to_assign_left x → done s2 w3 longer ≡ add kids link s2 w2 → left_turn r kids s w ≡ done s2 w3 (more longer)
+        pub left-more : {link : ℕ} {longer : Kids} {s3 : State} {w3 : World} → Some link ≡ to_assign_left x → done s3 w3 longer ≡ add kids link s2 w2 → left_turn r kids s w ≡ done s3 w3 (more longer)
         unfolding left_turn left_of
         left-more b c = rw p (rw q (rw (← b) (rw (← c))))
 
@@ -232,27 +232,27 @@ module _ (r : Inner) where
         unfolding right_turn
         right-lost b = rw (lt-ltb _ _ p, right_turn) (rw q (rw b))
 
-        pub right-more : {link : ℕ} {longer : Kids} {s2 : State} {w2 w3 : World} → expr r true s1 w1 ≡ done s2 w2 link → done s2 w3 longer ≡ add kids link s2 w2 → right_turn r n kids s w ≡ done s2 w3 (more longer)
+        pub right-more : {link : ℕ} {longer : Kids} {s2 s3 : State} {w2 w3 : World} → expr r true s1 w1 ≡ done s2 w2 link → done s3 w3 longer ≡ add kids link s2 w2 → right_turn r n kids s w ≡ done s3 w3 (more longer)
         unfolding right_turn
         right-more b c = rw (lt-ltb _ _ p, right_turn) (rw q (rw b (rw (← c))))
 
   -- as many right sides as left ones
-  module _ (from : ℕ) (left : Kids) (value : ℕ) (s : State) (w : World) {begun : Kids} {w1 : World} (p : done s w1 begun ≡ add (uncounted left) value s w) where
-    pub rights-failed : {y : Stop} → iterate r.sheet (right_turn r left.count) begun s w1 ≡ failed y → rights r from left value s w ≡ failed y
+  module _ (from : ℕ) (left : Kids) (value : ℕ) (s : State) (w : World) {begun : Kids} {s1 : State} {w1 : World} (p : done s1 w1 begun ≡ add (uncounted left) value s w) where
+    pub rights-failed : {y : Stop} → iterate r.sheet (right_turn r left.count) begun s1 w1 ≡ failed y → rights r from left value s w ≡ failed y
     unfolding rights
     rights-failed q = rw (← p) (rw q)
 
-    pub rights-on : {flags : ℕ} {kids : Kids} {s2 : State} {w2 : World} → iterate r.sheet (right_turn r left.count) begun s w1 ≡ done s2 w2 kids → flags ≡ flagged left.count kids.count false false → rights r from left value s w ≡ close node.AssignMulti from 0 0 flags kids.first s2 w2
+    pub rights-on : {flags : ℕ} {kids : Kids} {s2 : State} {w2 : World} → iterate r.sheet (right_turn r left.count) begun s1 w1 ≡ done s2 w2 kids → flags ≡ flagged left.count kids.count false false → rights r from left value s w ≡ close node.AssignMulti from 0 0 flags kids.first s2 w2
     unfolding rights
     rights-on q f = rw (← p) (rw (q, f))
 
   -- an assignment to several
   module _ (from : ℕ) (x : Expr) (s : State) (w : World) where
-    pub multi-nothing : assigns.Nothing ≡ to_assign_left x → multi r from x s w ≡ failed (fault s w (unexpected_at r.sheet s))
+    pub multi-nothing : None ≡ to_assign_left x → multi r from x s w ≡ failed (fault s w (unexpected_at r.sheet s))
     unfolding multi multi_to unexpected
     multi-nothing p = rw (← p)
 
-    module _ {one : ℕ} (p : assigns.To one ≡ to_assign_left x) where
+    module _ {one : ℕ} (p : Some one ≡ to_assign_left x) where
       pub multi-failed : {y : Stop} → lefts r (row_with one) s w ≡ failed y → multi r from x s w ≡ failed y
       unfolding multi multi_to
       multi-failed q = rw (← p) (rw q)
@@ -346,7 +346,7 @@ module _ (r : Inner) where
       plain-import a = rw (plain-placed r) (rw (starts r.sheet s w f) (rw q (rw (eq-eqb _ _ a))))
 
       module _ (a : which ≡ 0 → ⊥) where
-        pub plain-effect : which ≡ 1 → plain r s w ≡ effect_stmt r.sheet r.type_atom from ranged.Nowhere s1 w1
+        pub plain-effect : which ≡ 1 → plain r s w ≡ effect_stmt r.sheet r.type_atom from None s1 w1
         plain-effect b = rw (plain-placed r) (rw (starts r.sheet s w f) (rw q (rw (ne_eqb _ _ a) (rw (eq-eqb _ _ b)))))
 
         module _ (b : which ≡ 1 → ⊥) where
@@ -356,7 +356,7 @@ module _ (r : Inner) where
           pub plain-assign : (which ≡ 2 → ⊥) → plain r s w ≡ assign r from s1 w1
           plain-assign c = rw (plain-placed r) (rw (starts r.sheet s w f) (rw q (rw (ne_eqb _ _ a) (rw (ne_eqb _ _ b) (rw (ne_eqb _ _ c))))))
 
-  pub function-stmt-is : (s : State) (w : World) {from : ℕ} → from ≡ start_of (range_at r.sheet.tokens s.at) → function_stmt r s w ≡ named_function r from ranged.Nowhere s w
+  pub function-stmt-is : (s : State) (w : World) {from : ℕ} → from ≡ start_of (range_at r.sheet.tokens s.at) → function_stmt r s w ≡ named_function r from None s w
   unfolding function_stmt
   function-stmt-is s w f = rw (starts r.sheet s w f)
 
@@ -371,8 +371,8 @@ module _ (r : Inner) where
     stmt-plain p = rw p
 
     -- by whichever way a plain statement is come to
-    pub met : {s1 t : State} {n n1 e e1 x x1 l l1 : List ℕ} → stmt r s w ≡ plain r s1 (world n e x l) → n1 ≡ n → e1 ≡ e → x1 ≡ x → l1 ≡ l → t ≡ s1 → stmt r s w ≡ plain r t (world n1 e1 x1 l1)
-    met p n e x l t = p ∙ sym (λ j. plain r (t j) (world (n j) (e j) (x j) (l j)))
+    pub met : {p q : Parser} → stmt r s w ≡ run (plain r) q → p ≡ q → stmt r s w ≡ run (plain r) p
+    met h e = h ∙ sym (λ j. run (plain r) (e j))
 
     pub stmt-tried : {s1 : State} {w1 : World} → check r.sheet kind.Fn s w ≡ done s1 w1 true → stmt r s w ≡ try_parse (function_stmt r) give (plain r) s1 w1
     unfolding stmt

@@ -1,14 +1,13 @@
 -- That statements and what recovers from them never move back, where the rules handed over do not (Stays); and so for every number of levels.
+use Rattle.std.specs.Prelude.{Some, None, Option}
 use mathlib.Core.Path.{refl}
 use mathlib.Core.Bool.{true, false}
 use Prim.Native.Nat.{ℕ, zero, suc}
 use lib.Dec.{ltb, eqb}
 use Rattle.kinds.specs.Number as kind
 use Rattle.cursor.specs.declared.Kids.{Kids}
-use Rattle.cursor.specs.declared.Ranged.{Ranged}
-use Rattle.cursor.specs.declared.Ranged.TheVariants as ranged
+use Rattle.cursor.specs.Sheet.{Ranged, Sheet}
 use Rattle.cursor.specs.Node as node
-use Rattle.cursor.specs.Sheet.{Sheet}
 use Rattle.cursor.specs.Rule.{Rule, ◌>>=◌, give, Next, more}
 use Rattle.cursor.specs.Records.{add, no_kids}
 use Rattle.cursor.specs.Checks.{unexpected_at}
@@ -24,8 +23,6 @@ use Rattle.types.proofs.PatternKeeps.{patterns-keep}
 use Rattle.parts.specs.declared.values.Called.{Called}
 use Rattle.parts.specs.declared.values.Expr.{Expr}
 use Rattle.parts.specs.declared.values.Expr.TheVariants as exprs
-use Rattle.parts.specs.declared.values.AssignLeft.{AssignLeft}
-use Rattle.parts.specs.declared.values.AssignLeft.TheVariants as assigns
 use Rattle.parts.specs.declared.imports.Imported.{Imported}
 use Rattle.parts.specs.Answers.{on_path}
 use Rattle.parts.specs.Values.{to_assign_left, row_with, uncounted}
@@ -89,10 +86,10 @@ module _ {r : Inner} (h : Stays r) where
   unfolding right
   right-stays from k op link = binds (expr-stays h true) (λ value _. couple-stays k from op link value)
 
-  pub set-to-stays : (from sign : ℕ) (l : AssignLeft) → Keeps ground Plain (set_to r from sign l)
+  pub set-to-stays : (from sign : ℕ) (l : Option ℕ) → Keeps ground Plain (set_to r from sign l)
   unfolding set_to
-  set-to-stays from sign (assigns.To link) = thens (bump-keeps r.sheet) (ifs (eqb sign kind.Assign) (right-stays from node.Assign 0 link) (right-stays from node.AssignOp (operator_of sign) link))
-  set-to-stays from sign assigns.Nothing = unexpected-keeps r.sheet
+  set-to-stays from sign (Some link) = thens (bump-keeps r.sheet) (ifs (eqb sign kind.Assign) (right-stays from node.Assign 0 link) (right-stays from node.AssignOp (operator_of sign) link))
+  set-to-stays from sign None = unexpected-keeps r.sheet
 
   pub set-stays : (from sign : ℕ) (x : Expr) → Keeps ground Plain (set r from sign x)
   unfolding set
@@ -108,8 +105,8 @@ module _ {r : Inner} (h : Stays r) where
 
   pub left-of-stays : (comma : Ranged) (kids : Kids) → Keeps ground Plain (left_of r comma kids)
   unfolding left_of
-  left-of-stays ranged.Nowhere kids = gives tt
-  left-of-stays (ranged.At comma) kids = after-expr _ (h.prec 1 true).stays joins joins (λ link called. refused) (λ link. refused)
+  left-of-stays None kids = gives tt
+  left-of-stays (Some comma) kids = after-expr _ (h.prec 1 true).stays joins joins (λ link called. refused) (λ link. refused)
     where
       refused : Keeps {A = Next Kids} ground Plain (fail_with (alone kind.Comma comma))
       refused = fails _
@@ -133,13 +130,13 @@ module _ {r : Inner} (h : Stays r) where
   unfolding rights
   rights-stays from left value = binds (add-stays (uncounted left) value) (λ begun _. binds (rounds (right-turn-stays left.count) r.sheet begun) (λ kids _. close-stays node.AssignMulti from 0 0 _ kids.first))
 
-  pub multi-to-stays : (from : ℕ) (l : AssignLeft) → Keeps ground Plain (multi_to r from l)
+  pub multi-to-stays : (from : ℕ) (l : Option ℕ) → Keeps ground Plain (multi_to r from l)
   unfolding multi_to
-  multi-to-stays from (assigns.To one) =
+  multi-to-stays from (Some one) =
       binds (lefts-stays (row_with one)) (λ kids _. thens (expect-keeps r.sheet kind.Assign) (binds (expr-stays h true) (λ value _. binds (check-keeps r.sheet kind.Comma) (λ several _. ifs several
       (rights-stays from kids value)
       (row-record-stays node.AssignUnpack from kids value)))))
-  multi-to-stays from assigns.Nothing = unexpected-keeps r.sheet
+  multi-to-stays from None = unexpected-keeps r.sheet
 
   pub multi-stays : (from : ℕ) (x : Expr) → Keeps ground Plain (multi r from x)
   unfolding multi
@@ -162,11 +159,11 @@ module _ {r : Inner} (h : Stays r) where
 
   pub plain-starts : Starts r.sheet (plain_stmt r)
   unfolding plain_stmt
-  plain-starts = starts-then (start-keeps r.sheet) (λ from. chooses-start (stmt_cases r from) refl (import-stmt-opens r.sheet from & opens (effect-stmt-starts r.sheet h.type_atom from ranged.Nowhere) & glo-opens from & all) (assign-starts from))
+  plain-starts = starts-then (start-keeps r.sheet) (λ from. chooses-start (stmt_cases r from) refl (import-stmt-opens r.sheet from & opens (effect-stmt-starts r.sheet h.type_atom from None) & glo-opens from & all) (assign-starts from))
 
   pub function-stmt-starts : Starts r.sheet (function_stmt r)
   unfolding function_stmt
-  function-stmt-starts = starts-then (start-keeps r.sheet) (λ from. fn-stmt-starts h from ranged.Nowhere)
+  function-stmt-starts = starts-then (start-keeps r.sheet) (λ from. fn-stmt-starts h from None)
 
   -- a statement takes a token, wherever it begins
   pub stmt-starts : Starts r.sheet (stmt r)

@@ -1,4 +1,5 @@
 -- That each turn of the loops on expressions that goes on takes a token.
+use Rattle.std.specs.Prelude.{Some, None, Option}
 use mathlib.Core.Path.{◌≡◌, refl}
 use mathlib.Core.Bool.{Bool, true, false}
 use Prim.Native.Nat.{ℕ, ◌<◌, ◌≤◌}
@@ -6,14 +7,11 @@ use native.Mathlib.Omega.{arith}
 use native.Mathlib.Decide.{ℕ_discrete}
 use lib.Dec.{ltb}
 use Rattle.kinds.specs.Number as kind
-use Rattle.kinds.specs.declared.operator.Operator.{Operator}
-use Rattle.kinds.specs.declared.operator.Operator.TheVariants as operators
+use Rattle.kinds.specs.declared.operator.BinOp.{BinOp}
 use Rattle.kinds.specs.Operators.{binary_of, precedence_of}
 use Rattle.cursor.specs.declared.State.{State}
 use Rattle.cursor.specs.declared.Kids.{Kids}
-use Rattle.cursor.specs.declared.Ranged.{Ranged}
-use Rattle.cursor.specs.declared.Ranged.TheVariants as ranged
-use Rattle.cursor.specs.Sheet.{Sheet, count, kind_at}
+use Rattle.cursor.specs.Sheet.{Sheet, count, kind_at, Ranged}
 use Rattle.cursor.specs.Rule.{World, Rule, if_so}
 use Rattle.cursor.proofs.Ends.{Ends, well, Any, then, weaken, both}
 use Rattle.cursor.proofs.Loops.{left, Takes}
@@ -51,16 +49,16 @@ either-feeds true x y = x
 either-feeds false x y = y
 
 -- Eof stands between no operands
-eof-none : binary_of kind.Eof ≡ operators.Nothing
+eof-none : binary_of kind.Eof ≡ None
 unfolding binary_of
 eof-none = refl
 
 module _ {r : Inner} (h : Stays r) where
   -- operators
-  infix-by-feeds : (from min : ℕ) (lambda : Bool) (x : Expr) (k : ℕ) (o : Operator) → Feeds r.sheet Further (infix_by r from min lambda x k o)
+  infix-by-feeds : (from min : ℕ) (lambda : Bool) (x : Expr) (k : ℕ) (o : Option BinOp) → Feeds r.sheet Further (infix_by r from min lambda x k o)
   unfolding infix_by
-  infix-by-feeds from min lambda x k (operators.Binary op) = either-feeds (ltb (precedence_of op) min) (feeds (spares (λ x. x))) (first-feeds bump-feeds (λ _. operated-stays h from lambda x k (precedence_of op)))
-  infix-by-feeds from min lambda x k operators.Nothing = feeds (spares (λ x. x))
+  infix-by-feeds from min lambda x k (Some op) = either-feeds (ltb (precedence_of op) min) (feeds (spares (λ x. x))) (first-feeds bump-feeds (λ _. operated-stays h from lambda x k (precedence_of op)))
+  infix-by-feeds from min lambda x k None = feeds (spares (λ x. x))
 
   pub infix-spends : (from min : ℕ) (lambda : Bool) (x : Expr) → Spends r.sheet Further (infix_turn r from min lambda x)
   unfolding infix_turn infix_by count
@@ -99,8 +97,8 @@ module _ {r : Inner} (h : Stays r) where
   left-spends kids = record { ends = λ s w. then (both ((eat-range-keeps r.sheet kind.Comma).ends s w (ground-stands s)) ((eat-range-spends kind.Comma refl).ends s w)) (λ _ _ _ _. tt) (λ s1 w1 comma f. by s s1 w1 comma f.0.0.later.at f.1) }
     where
       by : (s s1 : State) (w1 : World) (comma : Ranged) → s.at ≤ s1.at → (Found comma → left r.sheet s1 < left r.sheet s) → Ends (λ s2 _ n. Further n → left r.sheet s2 < left r.sheet s) Any (left_of r comma kids s1 w1)
-      by s s1 w1 (ranged.At c) l f = let z = f tt in weaken ((left-of-stays h (ranged.At c) kids).ends s1 w1 (ground-stands s1)) (λ s2 w2 n p _. let a = p.0.later.at in omega arith) (λ _ _ _ _. tt)
-      by s s1 w1 ranged.Nowhere l f = well (λ x. absurd x)
+      by s s1 w1 (Some c) l f = let z = f tt in weaken ((left-of-stays h (Some c) kids).ends s1 w1 (ground-stands s1)) (λ s2 w2 n p _. let a = p.0.later.at in omega arith) (λ _ _ _ _. tt)
+      by s s1 w1 None l f = well (λ x. absurd x)
 
   pub right-spends : (n : ℕ) (kids : Kids) → Spends r.sheet Further (right_turn r n kids)
   unfolding right_turn

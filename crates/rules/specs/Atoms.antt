@@ -1,8 +1,7 @@
 -- Atoms: parse_expr_atom and parse_match_case.
-use Rattle.std.specs.Prelude.{ℕ, List, [], ◌∷◌, Bool, true, false}
+use Rattle.std.specs.Prelude.{ℕ, List, [], ◌∷◌, Bool, true, false, None}
 use Rattle.kinds.specs.Number as kind
 use Rattle.cursor.specs.declared.Kids.{Kids}
-use Rattle.cursor.specs.declared.Ranged.TheVariants as ranged
 use Rattle.cursor.specs.Node as node
 use Rattle.cursor.specs.Rule.{Rule, ◌>>=◌, ◌>>◌, give, if_so, more, stop, Turn, iterate}
 use Rattle.cursor.specs.Tokens.{bump, eat_eol}
@@ -47,19 +46,19 @@ module _ (r : Inner) where
   fn_expr from = do
     bump r.sheet
     f ← function r from false
-    fn_record from ranged.Nowhere no_link f
+    fn_record from None no_link f
 
   unfoldable pub closure_expr : ℕ → Rule ℕ
   closure_expr from = do
     f ← function r from true
-    fn_record from ranged.Nowhere no_link f
+    fn_record from None no_link f
 
   unfoldable pub do_expr : ℕ → Rule ℕ
   do_expr from = do
     bump r.sheet
     body ← block r node.None
     f ← over node.Do from body
-    fn_record from ranged.Nowhere no_link f
+    fn_record from None no_link f
 
   -- what stands behind `else`: another `if`, where trailing lambdas are taken again, or a block
   unfoldable pub alternate : Rule ℕ

@@ -1,7 +1,7 @@
 -- Functions: parse_function, and what parse_function_stmt and `glo fn` share.
 use Rattle.std.specs.Prelude.{ℕ, Bool, false}
 use Rattle.kinds.specs.Number as kind
-use Rattle.cursor.specs.declared.Ranged.{Ranged}
+use Rattle.cursor.specs.Sheet.{Ranged}
 use Rattle.cursor.specs.Node as node
 use Rattle.cursor.specs.Rule.{Rule, ◌>>=◌, ◌>>◌}
 use Rattle.cursor.specs.Checks.{expect}

@@ -1,16 +1,15 @@
 -- The knot: the rules on expressions with so many levels left, and a whole sheet.
-use Rattle.std.specs.Prelude.{ℕ, zero, suc, max, List, Bool, false}
+use Rattle.std.specs.Prelude.{ℕ, zero, suc, max, Bool, false}
 use Rattle.kinds.specs.Number as kind
 use Rattle.cursor.specs.declared.Kids.{Kids}
 use Rattle.cursor.specs.Node as node
-use Rattle.cursor.specs.Sheet.{Sheet, sheet}
+use Rattle.cursor.specs.Sheet.{Sheet}
 use Rattle.cursor.specs.Rule.{Rule, ◌>>=◌, refuse}
 use Rattle.cursor.specs.Records.{append, flagged}
 use Rattle.types.specs.Items.{start}
 use Rattle.types.specs.Types.{atoms}
 use Rattle.types.specs.Patterns.{patterns}
 use Rattle.parts.specs.declared.values.Expr.{Expr}
-use Rattle.parts.specs.declared.values.Left.{Left}
 use Rattle.rules.specs.Inner.{Inner}
 use Rattle.rules.specs.Precedence.{precedence}
 use Rattle.rules.specs.Exprs.{exprs}
@@ -34,10 +33,6 @@ knot e (suc d) = tie (within e d (knot e d))
 
 abbrev pub levels : Sheet → ℕ → Inner
 levels e d = within e d (knot e d)
-
--- the same of a text, its tokens, and what is left
-abbrev pub under : List ℕ → List ℕ → Left → Inner
-under text tokens left = levels (sheet text tokens left.limits) left.depth
 
 -- the record of the program, which ends where the last token read does; a list of trivia only is an empty program at its start
 unfoldable pub program_record : ℕ → Kids → Rule ℕ

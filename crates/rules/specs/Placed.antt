@@ -1,8 +1,7 @@
 -- The code's functions that are handed a place of a chain of checks, and no kind: what each reads. Several forms share one function there, and their steps. No
 -- rule goes by these; that they are the rules by kinds is in proofs/Placed.antt.
-use Rattle.std.specs.Prelude.{ℕ, Bool, true, false, ltb, eqb}
+use Rattle.std.specs.Prelude.{ℕ, Bool, true, false, ltb, eqb, None}
 use Rattle.kinds.specs.Number as kind
-use Rattle.cursor.specs.declared.Ranged.TheVariants as ranged
 use Rattle.cursor.specs.Node as node
 use Rattle.cursor.specs.Rule.{Rule, ◌>>=◌, ◌>>◌, give}
 use Rattle.cursor.specs.Tokens.{bump}
@@ -56,7 +55,7 @@ module _ (r : Inner) where
   unfoldable pub anon : ℕ → ℕ → Rule ℕ
   anon from which = do
     f ← anon_function from which
-    fn_record from ranged.Nowhere no_link f
+    fn_record from None no_link f
 
   -- `loop`, `while` and `for`
   unfoldable pub loops : ℕ → ℕ → Rule ℕ

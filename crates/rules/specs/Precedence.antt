@@ -1,8 +1,7 @@
 -- Levels of operators, unary forms and `try`: parse_expr_precedence and parse_expr_unary.
-use Rattle.std.specs.Prelude.{ℕ, ◌+◌, List, [], ◌∷◌, Bool, ltb, eqb}
+use Rattle.std.specs.Prelude.{ℕ, ◌+◌, List, [], ◌∷◌, Bool, ltb, eqb, Some, None, Option}
 use Rattle.kinds.specs.Number as kind
-use Rattle.kinds.specs.declared.operator.Operator.{Operator}
-use Rattle.kinds.specs.declared.operator.Operator.TheVariants as operators
+use Rattle.kinds.specs.declared.operator.BinOp.{BinOp}
 use Rattle.kinds.specs.Operators.{binary_of, precedence_of}
 use Rattle.cursor.specs.declared.Kids.{Kids}
 use Rattle.cursor.specs.declared.Span.{Span}
@@ -89,11 +88,11 @@ module _ (r : Inner) where
     link ← couple node.Binary from k (link_of x) (link_of y)
     give (more (exprs.Other link)))
 
-  unfoldable pub infix_by : ℕ → ℕ → Bool → Expr → ℕ → Operator → Rule (Next Expr)
-  infix_by from min lambda x k (operators.Binary op) = when (ltb (precedence_of op) min) (give (stop x)) (do
+  unfoldable pub infix_by : ℕ → ℕ → Bool → Expr → ℕ → Option BinOp → Rule (Next Expr)
+  infix_by from min lambda x k (Some op) = when (ltb (precedence_of op) min) (give (stop x)) (do
     bump r.sheet
     operated from lambda x k (precedence_of op))
-  infix_by from min lambda x k operators.Nothing = give (stop x)
+  infix_by from min lambda x k None = give (stop x)
 
   -- one operator more, of this level or a higher one
   unfoldable pub infix_turn : ℕ → ℕ → Bool → Turn Expr

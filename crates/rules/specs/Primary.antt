@@ -1,7 +1,7 @@
 -- Calls and members: parse_expr_primary. The atom's rule is handed over.
 use Rattle.std.specs.Prelude.{ℕ, List, [], ◌∷◌, Bool, true}
 use Rattle.kinds.specs.Number as kind
-use Rattle.cursor.specs.declared.Ranged.{Ranged}
+use Rattle.cursor.specs.Sheet.{Ranged}
 use Rattle.cursor.specs.Node as node
 use Rattle.cursor.specs.Rule.{Rule, ◌>>=◌, ◌>>◌, give, if_so, Next, Turn, iterate}
 use Rattle.cursor.specs.Tokens.{bump}

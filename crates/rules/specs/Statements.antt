@@ -1,11 +1,9 @@
 -- Statements: parse_stmt, with its assignments.
-use Rattle.std.specs.Prelude.{ℕ, List, [], ◌∷◌, true, false, ltb, eqb}
+use Rattle.std.specs.Prelude.{ℕ, List, [], ◌∷◌, true, false, ltb, eqb, Some, None, Option}
 use Rattle.kinds.specs.Number as kind
 use Rattle.cursor.specs.declared.Kids.{Kids}
-use Rattle.cursor.specs.declared.Ranged.{Ranged}
-use Rattle.cursor.specs.declared.Ranged.TheVariants as ranged
+use Rattle.cursor.specs.Sheet.{Ranged, range_at}
 use Rattle.cursor.specs.Node as node
-use Rattle.cursor.specs.Sheet.{range_at}
 use Rattle.cursor.specs.Rule.{Rule, ◌>>=◌, ◌>>◌, give, if_so, Next, more, stop, Turn, iterate}
 use Rattle.cursor.specs.Tokens.{bump}
 use Rattle.cursor.specs.Checks.{check, expect, eat_range, Case, ◌⇒◌, choose, unexpected}
@@ -15,8 +13,6 @@ use Rattle.types.specs.Items.{start, close, pair}
 use Rattle.types.specs.Types.{type, named, typed_ident}
 use Rattle.parts.specs.declared.values.Expr.{Expr}
 use Rattle.parts.specs.declared.values.Expr.TheVariants as exprs
-use Rattle.parts.specs.declared.values.AssignLeft.{AssignLeft}
-use Rattle.parts.specs.declared.values.AssignLeft.TheVariants as assigns
 use Rattle.parts.specs.Values.{link_of, to_assign_left, row_with, uncounted}
 use Rattle.rules.specs.Inner.{Inner, expr}
 use Rattle.parts.specs.When.{when, fail_with}
@@ -34,11 +30,11 @@ module _ (r : Inner) where
     couple k from op link value
 
   -- an assignment, with an operator or without, whose sign of this kind stands here; what may not be assigned to is an error
-  unfoldable pub set_to : ℕ → ℕ → AssignLeft → Rule ℕ
-  set_to from sign (assigns.To link) = do
+  unfoldable pub set_to : ℕ → ℕ → Option ℕ → Rule ℕ
+  set_to from sign (Some link) = do
     bump r.sheet
     when (eqb sign kind.Assign) (right from node.Assign no_operator link) (right from node.AssignOp (operator_of sign) link)
-  set_to from sign assigns.Nothing = unexpected r.sheet
+  set_to from sign None = unexpected r.sheet
 
   unfoldable pub set : ℕ → ℕ → Expr → Rule ℕ
   set from sign x = set_to from sign (to_assign_left x)
@@ -57,16 +53,16 @@ module _ (r : Inner) where
 
   -- one left side more behind its comma; an error for one that may not be assigned to is at that comma and lists nothing
   unfoldable pub left_of : Ranged → Kids → Rule (Next Kids)
-  left_of ranged.Nowhere kids = give (stop kids)
-  left_of (ranged.At comma) kids = do
+  left_of None kids = give (stop kids)
+  left_of (Some comma) kids = do
     x ← r.prec 1 true
     joined (to_assign_left x)
     where
-      joined : AssignLeft → Rule (Next Kids)
-      joined (assigns.To link) = do
+      joined : Option ℕ → Rule (Next Kids)
+      joined (Some link) = do
         longer ← add kids link
         give (more longer)
-      joined assigns.Nothing = fail_with (alone kind.Comma comma)
+      joined None = fail_with (alone kind.Comma comma)
 
   unfoldable pub left_turn : Turn Kids
   left_turn kids = do
@@ -92,14 +88,14 @@ module _ (r : Inner) where
     close node.AssignMulti from 0 0 (flagged left.count kids.count false false) kids.first
 
   -- an assignment to several, of one value or of as many
-  unfoldable pub multi_to : ℕ → AssignLeft → Rule ℕ
-  multi_to from (assigns.To one) = do
+  unfoldable pub multi_to : ℕ → Option ℕ → Rule ℕ
+  multi_to from (Some one) = do
     kids ← lefts (row_with one)
     expect r.sheet kind.Assign
     value ← expr r true
     several ← check r.sheet kind.Comma
     if_so (rights from kids value) (row_record node.AssignUnpack from kids value) several
-  multi_to from assigns.Nothing = unexpected r.sheet
+  multi_to from None = unexpected r.sheet
 
   unfoldable pub multi : ℕ → Expr → Rule ℕ
   multi from x = multi_to from (to_assign_left x)
@@ -144,7 +140,7 @@ module _ (r : Inner) where
   abbrev pub stmt_cases : ℕ → List (Case ℕ)
   stmt_cases from =
       kind.Import ⇒ import_stmt r.sheet from
-      ∷ kind.Effect ⇒ effect_stmt r.sheet r.type_atom from ranged.Nowhere
+      ∷ kind.Effect ⇒ effect_stmt r.sheet r.type_atom from None
       ∷ kind.Glo ⇒ glo from
       ∷ []
 
@@ -157,7 +153,7 @@ module _ (r : Inner) where
   unfoldable pub function_stmt : Rule ℕ
   function_stmt = do
     from ← start r.sheet
-    named_function r from ranged.Nowhere
+    named_function r from None
 
   -- parse_stmt: a statement at `fn` is attempted as a named function, then read as any other
   unfoldable pub stmt : Rule ℕ

@@ -1,4 +1,5 @@
 -- The document's sentence on depth, from the demands alone: x in 62 parentheses is read, and in 63 gets 9.
+use Rattle.std.specs.Prelude.{Ok}
 use Prim.Native.Nat.{ℕ, zero, suc, ◌+◌, ◌*◌}
 use native.Mathlib.Omega.{arith}
 use mathlib.Core.Path.{◌≡◌, refl}
@@ -9,7 +10,6 @@ use Rattle.kinds.specs.Number as kind
 use Rattle.kinds.specs.Kinds.{is_trivia}
 use Rattle.kinds.specs.Operators.{binary_of, level_of}
 use Rattle.cursor.specs.Tree.{size, join}
-use Rattle.entry.specs.declared.Entry.TheVariants.{Fit}
 use Rattle.entry.specs.Check.{entry_of}
 use Rattle.grammar.specs.Places.{Token, Place, kind_of, span_of, after, tokens_of, significant, before, opening}
 use Rattle.grammar.specs.Symbols.{Form, Name, Other, Atom}
@@ -79,11 +79,11 @@ unfoldable sixty-three : Follows (text_of 63) (tokens_in 63)
 unfolding nest before tokens_of significant is_trivia kind_of after among level_of binary_of
 sixty-three = record { end = _; body = exprs-of (no-eol (other refl)) (last-stmt (expr-stmt (alone (nested 63 0 0 []) (free refl) (other refl) (ltb-true _ _ refl)) (free refl)) (takes refl refl)); whole = refl }
 
-sixty-two-fit : entry_of (text_of 62) (tokens_in 62) ≡ Fit
+sixty-two-fit : entry_of (text_of 62) (tokens_in 62) ≡ Ok tt
 unfolding nest of-kinds of_entry
 sixty-two-fit = refl
 
-sixty-three-fit : entry_of (text_of 63) (tokens_in 63) ≡ Fit
+sixty-three-fit : entry_of (text_of 63) (tokens_in 63) ≡ Ok tt
 unfolding nest of-kinds of_entry
 sixty-three-fit = refl
 

@@ -1,4 +1,5 @@
 -- Small sheets past the entry check that follow the grammar, and buffers just long enough for their trees.
+use Rattle.std.specs.Prelude.{Ok}
 use Prim.Native.Nat.{ℕ, ◌*◌}
 use mathlib.Core.Path.{◌≡◌, refl}
 use mathlib.Core.List.{List, [], ◌∷◌}
@@ -8,7 +9,6 @@ use Rattle.kinds.specs.Number as kind
 use Rattle.kinds.specs.Spelling.{bytes}
 use Rattle.kinds.specs.Kinds.{is_trivia}
 use Rattle.kinds.specs.Operators.{binary_of, level_of}
-use Rattle.entry.specs.declared.Entry.TheVariants.{Fit}
 use Rattle.entry.specs.Check.{entry_of}
 use Rattle.grammar.specs.Places.{kind_of, after, tokens_of, significant, before}
 use Rattle.grammar.specs.Derives.{no-eol, an-ident, exprs-of, last-stmt, a-line, expr-stmt, name}
@@ -51,34 +51,34 @@ abbrev pub function-text : List ℕ
 function-text = bytes "fn () {}"
 
 -- all of them pass the entry check
-pub nothing-fit : entry_of [] [] ≡ Fit
+pub nothing-fit : entry_of [] [] ≡ Ok tt
 unfolding of-kinds of_entry
 nothing-fit = refl
 
-pub two-fit : entry_of two-text two-tokens ≡ Fit
+pub two-fit : entry_of two-text two-tokens ≡ Ok tt
 unfolding of-kinds of_entry
 two-fit = refl
 
-pub product-fit : entry_of product-text product-tokens ≡ Fit
+pub product-fit : entry_of product-text product-tokens ≡ Ok tt
 unfolding of-kinds of_entry
 product-fit = refl
 
-pub braces-fit : entry_of braces-text braces ≡ Fit
+pub braces-fit : entry_of braces-text braces ≡ Ok tt
 unfolding of-kinds of_entry
 braces-fit = refl
 
-pub number-fit : entry_of (bytes "{1}") number-tokens ≡ Fit
+pub number-fit : entry_of (bytes "{1}") number-tokens ≡ Ok tt
 unfolding of-kinds of_entry
 number-fit = refl
 
-pub key-fit : entry_of (bytes "{(x): 1}") key-tokens ≡ Fit
+pub key-fit : entry_of (bytes "{(x): 1}") key-tokens ≡ Ok tt
 unfolding of-kinds of_entry
 key-fit = refl
 
-pub nested-fit : entry_of nested-text nested-tokens ≡ Fit
+pub nested-fit : entry_of nested-text nested-tokens ≡ Ok tt
 unfolding of-kinds of_entry
 nested-fit = refl
 
-pub function-fit : entry_of function-text function-tokens ≡ Fit
+pub function-fit : entry_of function-text function-tokens ≡ Ok tt
 unfolding of-kinds of_entry
 function-fit = refl

@@ -1,16 +1,15 @@
 -- What the rules on expressions leave as it was, where the rules handed over leave it: all that lay below a mark (KeepsRow).
+use Rattle.std.specs.Prelude.{Some, None, Option}
 use mathlib.Core.Bool.{Bool, true, false}
 use Prim.Native.Nat.{ℕ, ◌+◌}
 use lib.Dec.{ltb, eqb}
 use Rattle.kinds.specs.Number as kind
-use Rattle.kinds.specs.declared.operator.Operator.{Operator}
-use Rattle.kinds.specs.declared.operator.Operator.TheVariants as operators
+use Rattle.kinds.specs.declared.operator.BinOp.{BinOp}
 use Rattle.kinds.specs.Operators.{binary_of, precedence_of}
 use Rattle.cursor.specs.declared.Kids.{Kids}
 use Rattle.cursor.specs.declared.Span.{Span}
-use Rattle.cursor.specs.declared.Ranged.{Ranged}
+use Rattle.cursor.specs.Sheet.{Ranged, kind_at}
 use Rattle.cursor.specs.Node as node
-use Rattle.cursor.specs.Sheet.{kind_at}
 use Rattle.cursor.specs.Rule.{Rule, ◌>>=◌}
 use Rattle.cursor.proofs.Chosen.{all, ◌&◌}
 use Rattle.cursor.proofs.Keeps.{Mark, Keeps, Plain, Nexts, gives, ifs, binds, thens, attempts, loops}
@@ -242,11 +241,11 @@ module _ {m : Mark} {r : Inner} (h : Guards m r) where
   unfolding unary
   unary-keeps lambda = binds (start-keeps _) (λ from _. chooses r.sheet (unary_cases r from lambda) (unary-op-keeps from lambda & unary-op-keeps from lambda & tried-keeps lambda & all) (primary-keeps lambda))
 
-  infix-by-keeps : (from min : ℕ) (lambda : Bool) (x : Expr) (k : ℕ) (o : Operator) → ExprFor m x → Keeps m (Nexts (ExprFor m)) (infix_by r from min lambda x k o)
+  infix-by-keeps : (from min : ℕ) (lambda : Bool) (x : Expr) (k : ℕ) (o : Option BinOp) → ExprFor m x → Keeps m (Nexts (ExprFor m)) (infix_by r from min lambda x k o)
   unfolding infix_by operated
-  infix-by-keeps from min lambda x k (operators.Binary op) g =
+  infix-by-keeps from min lambda x k (Some op) g =
       ifs (ltb (precedence_of op) min) (gives g) (thens (bump-keeps _) (ifs (eqb k kind.Is) (type-check-keeps r.sheet from x) (binds (h.prec (precedence_of op + 1) lambda) (λ y j. binds (couple-keeps _ from k (link_of x) (link_of y) (link-fresh m x g) (link-fresh m y j)) (λ link f. gives f)))))
-  infix-by-keeps from min lambda x k operators.Nothing g = gives g
+  infix-by-keeps from min lambda x k None g = gives g
 
   infix-keeps : (from min : ℕ) (lambda : Bool) (x : Expr) → ExprFor m x → Keeps m (Nexts (ExprFor m)) (infix_turn r from min lambda x)
   unfolding infix_turn

@@ -1,14 +1,13 @@
 -- What the records of expressions, and the steps that lead back to no expression, leave as it was: all that lay below a mark (Keeps). A link that is
 -- answered leads to a record made since the mark, and so does the last child of a row; hence nothing is linked behind a record below it.
+use Rattle.std.specs.Prelude.{Some, None, Option}
 use mathlib.Core.Bool.{Bool}
 use Prim.Native.Nat.{ℕ, zero, suc}
 use Rattle.cursor.specs.declared.State.{State}
 use Rattle.cursor.specs.declared.Kids.{Kids}
 use Rattle.cursor.specs.declared.Fault.{Fault}
 use Rattle.cursor.specs.declared.Span.{Span}
-use Rattle.cursor.specs.declared.Ranged.{Ranged}
-use Rattle.cursor.specs.declared.Ranged.TheVariants as ranged
-use Rattle.cursor.specs.Sheet.{Sheet, range_at}
+use Rattle.cursor.specs.Sheet.{Sheet, range_at, Ranged}
 use Rattle.cursor.specs.Rule.{Rule, ◌>>=◌, give, if_so, more, stop}
 use Rattle.cursor.specs.Records.{add}
 use Rattle.cursor.proofs.Ends.{ill}
@@ -19,8 +18,6 @@ use Rattle.types.specs.Items.{close, add_some, one_item}
 use Rattle.types.proofs.ItemKeeps.{ItemsFor, after-item-keeps, ident-keeps}
 use Rattle.parts.specs.declared.values.Expr.{Expr}
 use Rattle.parts.specs.declared.values.Expr.TheVariants as exprs
-use Rattle.parts.specs.declared.steps.Checked.{Checked}
-use Rattle.parts.specs.declared.steps.Checked.TheVariants as checked
 use Rattle.parts.specs.Values.{link_of, member_of}
 use Rattle.parts.specs.When.{fail_with}
 use Rattle.parts.specs.Until.{until_turn, items_until}
@@ -41,11 +38,11 @@ link-fresh m (exprs.Call link called) g = g.0
 link-fresh m (exprs.Other link) g = g
 
 member-fresh : (m : Mark) (x : Expr) (safe : Ranged) (link : ℕ) → Fresh m link → ExprFor m (member_of x safe link)
-member-fresh m x (ranged.At r) link f = f
-member-fresh m (exprs.Name n) ranged.Nowhere link f = f
-member-fresh m (exprs.NameMember n) ranged.Nowhere link f = f
-member-fresh m (exprs.Call n called) ranged.Nowhere link f = f
-member-fresh m (exprs.Other n) ranged.Nowhere link f = f
+member-fresh m x (Some r) link f = f
+member-fresh m (exprs.Name n) None link f = f
+member-fresh m (exprs.NameMember n) None link f = f
+member-fresh m (exprs.Call n called) None link f = f
+member-fresh m (exprs.Other n) None link f = f
 
 module _ {m : Mark} where
   pub fails : {A : Type 0} {G : A → Type 0} (f : Fault) → Keeps m G (fail_with f)
@@ -123,15 +120,15 @@ module _ {m : Mark} where
     unfolding case_patterns pattern_turn
     case-patterns-keep pattern x = loops (λ kids h. joins _ _ kids x (eat-keeps _ _) h) e nothing
 
-    type-checked-keeps : (from : ℕ) (x : Expr) (r : Span) (c : Checked) → Keeps m (Nexts (ExprFor m)) (type_checked e from x r c)
+    type-checked-keeps : (from : ℕ) (x : Expr) (r : Span) (c : Option ℕ) → Keeps m (Nexts (ExprFor m)) (type_checked e from x r c)
     unfolding type_checked
-    type-checked-keeps from x r (checked.Type n) = thens (bump-keeps _) (binds (closes _ _ _ _ _ _) (λ link f. gives f))
-    type-checked-keeps from x r checked.Unknown = unexpected-keeps _
+    type-checked-keeps from x r (Some n) = thens (bump-keeps _) (binds (closes _ _ _ _ _ _) (λ link f. gives f))
+    type-checked-keeps from x r None = unexpected-keeps _
 
     type-check-at-keeps : (from : ℕ) (x : Expr) (k : ℕ) (r : Ranged) → Keeps m (Nexts (ExprFor m)) (type_check_at e from x k r)
     unfolding type_check_at
-    type-check-at-keeps from x k (ranged.At r) = type-checked-keeps from x r (checked_type e.text k r)
-    type-check-at-keeps from x k ranged.Nowhere = unexpected-keeps _
+    type-check-at-keeps from x k (Some r) = type-checked-keeps from x r (checked_type e.text k r)
+    type-check-at-keeps from x k None = unexpected-keeps _
 
     pub type-check-keeps : (from : ℕ) (x : Expr) → Keeps m (Nexts (ExprFor m)) (type_check e from x)
     unfolding type_check

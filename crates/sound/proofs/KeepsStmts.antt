@@ -1,14 +1,13 @@
 -- What imports, effects, statements and what recovers from them leave as it was: all that lay below a mark (KeepsRow); and so with every number of
 -- levels left. Hence what the two attempts of the rules keep, which the records that were there before do not notice.
+use Rattle.std.specs.Prelude.{Some, None, Option}
 use mathlib.Core.Bool.{true, false}
 use Prim.Native.Nat.{ℕ, zero, suc}
 use lib.Dec.{ltb, eqb}
 use Rattle.kinds.specs.Number as kind
 use Rattle.cursor.specs.declared.State.{State}
 use Rattle.cursor.specs.declared.Kids.{Kids}
-use Rattle.cursor.specs.declared.Ranged.{Ranged}
-use Rattle.cursor.specs.declared.Ranged.TheVariants as ranged
-use Rattle.cursor.specs.Sheet.{Sheet}
+use Rattle.cursor.specs.Sheet.{Ranged, Sheet}
 use Rattle.cursor.specs.Rule.{Rule, ◌>>=◌}
 use Rattle.cursor.specs.Checks.{unexpected_at}
 use Rattle.cursor.proofs.Chosen.{all, ◌&◌}
@@ -20,8 +19,6 @@ use Rattle.types.proofs.PatternKeeps.{patterns-keep}
 use Rattle.parts.specs.declared.values.Called.{Called}
 use Rattle.parts.specs.declared.values.Expr.{Expr}
 use Rattle.parts.specs.declared.values.Expr.TheVariants as exprs
-use Rattle.parts.specs.declared.values.AssignLeft.{AssignLeft}
-use Rattle.parts.specs.declared.values.AssignLeft.TheVariants as assigns
 use Rattle.parts.specs.declared.imports.Imported.{Imported}
 use Rattle.parts.specs.Values.{to_assign_left}
 use Rattle.parts.specs.Effects.{effect_record, effect_stmt}
@@ -40,9 +37,9 @@ abbrev ImportFor : Mark → Imported → Type 0
 ImportFor m i = RowFor m i.kids
 
 -- a left side that may be assigned to
-abbrev LeftFor : Mark → AssignLeft → Type 0
-LeftFor m (assigns.To link) = Fresh m link
-LeftFor m assigns.Nothing = Unit {0}
+abbrev LeftFor : Mark → Option ℕ → Type 0
+LeftFor m (Some link) = Fresh m link
+LeftFor m None = Unit {0}
 
 left-fresh : (m : Mark) (x : Expr) → ExprFor m x → LeftFor m (to_assign_left x)
 left-fresh m (exprs.Name link) g = g
@@ -107,10 +104,10 @@ module _ {m : Mark} {r : Inner} (h : Guards m r) where
   unfolding right
   right-keeps from k op link f = binds (expr-keeps h true) (λ value g. couple-keeps k from op link value f g)
 
-  set_keeps : (from sign : ℕ) (l : AssignLeft) → LeftFor m l → Keeps m (Fresh m) (set_to r from sign l)
+  set_keeps : (from sign : ℕ) (l : Option ℕ) → LeftFor m l → Keeps m (Fresh m) (set_to r from sign l)
   unfolding set_to
-  set_keeps from sign (assigns.To link) f = thens (bump-keeps _) (ifs (eqb sign kind.Assign) (right-keeps _ _ _ _ f) (right-keeps _ _ _ _ f))
-  set_keeps from sign assigns.Nothing f = unexpected-keeps _
+  set_keeps from sign (Some link) f = thens (bump-keeps _) (ifs (eqb sign kind.Assign) (right-keeps _ _ _ _ f) (right-keeps _ _ _ _ f))
+  set_keeps from sign None f = unexpected-keeps _
 
   typed-assign-keeps : (from : ℕ) (x : Expr) → ExprFor m x → Keeps m (Fresh m) (typed_assign r from x)
   unfolding typed_assign
@@ -121,20 +118,20 @@ module _ {m : Mark} {r : Inner} (h : Guards m r) where
 
   left-keeps : (comma : Ranged) (kids : Kids) → RowFor m kids → Keeps m (Nexts (RowFor m)) (left_of r comma kids)
   unfolding left_of
-  left-keeps ranged.Nowhere kids g = gives g
-  left-keeps (ranged.At comma) kids g = after-expr _ (h.prec 1 true) (λ link f. binds (adds _ _ g f) (λ longer j. gives j)) (λ link f. binds (adds _ _ g f) (λ longer j. gives j)) (λ link called. (fails _)) (λ link. (fails _))
+  left-keeps None kids g = gives g
+  left-keeps (Some comma) kids g = after-expr _ (h.prec 1 true) (λ link f. binds (adds _ _ g f) (λ longer j. gives j)) (λ link f. binds (adds _ _ g f) (λ longer j. gives j)) (λ link called. (fails _)) (λ link. (fails _))
 
   rights-keep : (from : ℕ) (left : Kids) (value : ℕ) → RowFor m left → Fresh m value → Keeps m (Fresh m) (rights r from left value)
   unfolding rights right_turn
   rights-keep from left value g f = binds (adds _ _ g f) (λ begun j. binds (loops (λ kids k. ifs (ltb kids.count left.count) (thens (expect-keeps _ _) (binds (expr-keeps h true) (λ link i. binds (adds _ _ k i) (λ longer l. gives l)))) (gives k)) r.sheet j) (λ kids _. closes _ _ _ _ _ _))
 
-  multi-keeps : (from : ℕ) (l : AssignLeft) → LeftFor m l → Keeps m (Fresh m) (multi_to r from l)
+  multi-keeps : (from : ℕ) (l : Option ℕ) → LeftFor m l → Keeps m (Fresh m) (multi_to r from l)
   unfolding multi_to lefts left_turn
-  multi-keeps from (assigns.To one) f =
+  multi-keeps from (Some one) f =
       binds (loops (λ kids g. binds (eat-range-keeps r.sheet kind.Comma) (λ comma _. left-keeps comma kids g)) r.sheet (fresh-mine one f)) (λ kids g. thens (expect-keeps _ _) (binds (expr-keeps h true) (λ value j. binds (check-keeps _ _) (λ several _. ifs several
       (rights-keep from kids value g j)
       (row-record-keeps _ from kids value g j)))))
-  multi-keeps from assigns.Nothing f = unexpected-keeps _
+  multi-keeps from None f = unexpected-keeps _
 
   assign-keeps : (from : ℕ) → Keeps m (Fresh m) (assign r from)
   unfolding assign multi set

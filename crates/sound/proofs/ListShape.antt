@@ -4,7 +4,7 @@ use mathlib.Core.List.{List}
 use mathlib.Core.Bool.{Bool}
 use Prim.Native.Nat.{ℕ, ◌+◌}
 use native.Mathlib.Omega.{arith}
-use Rattle.cursor.specs.declared.Ranged.{Ranged}
+use Rattle.cursor.specs.Sheet.{Ranged}
 use Rattle.cursor.specs.Tree.{Trees, join}
 use Rattle.cursor.proofs.Laws.{join-none, join-assoc}
 use Rattle.grammar.specs.Places.{Place}

@@ -1,4 +1,5 @@
 -- Statements that begin with an expression: it alone, or the assignment that it begins.
+use Rattle.std.specs.Prelude.{Some, None, Option}
 use mathlib.Core.Path.{◌≡◌, refl, ap, subst}
 use mathlib.Core.List.{List, ◌∷◌}
 use mathlib.Core.Bool.{Bool, true, false}
@@ -22,8 +23,6 @@ use Rattle.cursor.proofs.Grows.{as_row}
 use Rattle.types.specs.Items.{so}
 use Rattle.parts.specs.declared.values.Expr.{Expr}
 use Rattle.parts.specs.declared.values.Expr.TheVariants as exprs
-use Rattle.parts.specs.declared.values.AssignLeft.{AssignLeft}
-use Rattle.parts.specs.declared.values.AssignLeft.TheVariants as assigns
 use Rattle.parts.specs.Values.{link_of, to_assign_left, row_with, uncounted}
 use Rattle.parts.specs.When.{when}
 use Rattle.parts.specs.Records.{couple as couple-rule, row_record}
@@ -45,7 +44,7 @@ use Rattle.sound.proofs.SoundTypes.{types-sound}
 use Rattle.sound.proofs.SoundExprs.{form_of, Held, Expressed, expressed}
 use Rattle.sound.proofs.SoundPrec.{expr-sound}
 use Rattle.sound.proofs.SoundImports.{two-flags}
-use Rattle.sound.proofs.SoundSides.{Some, some, lefts-some, Lefted, lefted, Righted, righted, rights-behind, LeftTurn, lefts-sound, lefts-read, RightTurn, rights-read}
+use Rattle.sound.proofs.SoundSides.{OneOrMore, some, lefts-some, Lefted, lefted, Righted, righted, rights-behind, LeftTurn, lefts-sound, lefts-read, RightTurn, rights-read}
 use Rattle.sound.proofs.Ahead.{ahead, fewer}
 use Rattle.sound.proofs.FewLefts.{lefts-few, view-short}
 
@@ -65,9 +64,9 @@ pub data RightOf (text : List ℕ) (k from op a : ℕ) : Spot → Spot → ℕ �
 
 module _ (e : Sheet) where
   -- what the rules claim, by what may be assigned to
-  abbrev SideTo : ℕ → ℕ → ℕ → AssignLeft → Claim ℕ
-  SideTo k from op (assigns.To link) = Seq Bumped (λ _. RightOf e.text k from op link)
-  SideTo k from op assigns.Nothing = Nothing
+  abbrev SideTo : ℕ → ℕ → ℕ → Option ℕ → Claim ℕ
+  SideTo k from op (Some link) = Seq Bumped (λ _. RightOf e.text k from op link)
+  SideTo k from op None = Nothing
 
   abbrev SetOf : ℕ → ℕ → Expr → Claim ℕ
   SetOf from sign x = If (eqb sign kind.Assign) (SideTo node.Assign from 0 (to_assign_left x)) (SideTo node.AssignOp from (operator_of sign) (to_assign_left x))
@@ -85,9 +84,9 @@ module _ (e : Sheet) where
   BehindLefts from kids = Seq (Took kind.Assign) (λ _. Seq (Value e.text (Whole true)) (λ link. Seq (Saw kind.Comma) (λ b. If b (RightsOf from kids link)
       (Seq (Added kids link) (λ all. Closed node.AssignUnpack from 0 0 (flagged kids.count 0 false false) all.first)))))
 
-  abbrev MultiTo : ℕ → AssignLeft → Claim ℕ
-  MultiTo from (assigns.To link) = Seq (Star (LeftTurn e) (row_with link)) (λ kids. BehindLefts from kids)
-  MultiTo from assigns.Nothing = Nothing
+  abbrev MultiTo : ℕ → Option ℕ → Claim ℕ
+  MultiTo from (Some link) = Seq (Star (LeftTurn e) (row_with link)) (λ kids. BehindLefts from kids)
+  MultiTo from None = Nothing
 
   abbrev pub AssignOf : ℕ → Claim ℕ
   AssignOf from = Seq (Expressed e.text (Prec 1 true)) (λ x.
@@ -112,14 +111,14 @@ module _ (e : Sheet) where
     unfolding set set_to
     set-sound from sign x = to (to_assign_left x)
       where
-        by : (link : ℕ) (b : Bool) → Sound e (If b (SideTo node.Assign from 0 (assigns.To link)) (SideTo node.AssignOp from (operator_of sign) (assigns.To link)))
+        by : (link : ℕ) (b : Bool) → Sound e (If b (SideTo node.Assign from 0 (Some link)) (SideTo node.AssignOp from (operator_of sign) (Some link)))
             (bump e >> when b (right (levels e d) from node.Assign 0 link) (right (levels e d) from node.AssignOp (operator_of sign) link))
         by link true = binds e (bump-sound e) (λ _. right-sound from node.Assign 0 link)
         by link false = binds e (bump-sound e) (λ _. right-sound from node.AssignOp (operator_of sign) link)
 
-        to : (l : AssignLeft) → Sound e (If (eqb sign kind.Assign) (SideTo node.Assign from 0 l) (SideTo node.AssignOp from (operator_of sign) l)) (set_to (levels e d) from sign l)
-        to (assigns.To link) = by link (eqb sign kind.Assign)
-        to assigns.Nothing = unexpected-sound e
+        to : (l : Option ℕ) → Sound e (If (eqb sign kind.Assign) (SideTo node.Assign from 0 l) (SideTo node.AssignOp from (operator_of sign) l)) (set_to (levels e d) from sign l)
+        to (Some link) = by link (eqb sign kind.Assign)
+        to None = unexpected-sound e
 
     typed-sound : (from : ℕ) (x : Expr) → Sound e (TypedOf from x) (typed_assign (levels e d) from x)
     unfolding typed_assign
@@ -132,12 +131,12 @@ module _ (e : Sheet) where
     unfolding right_turn
     right-turn-sound all kids = ifs e (ltb kids.count all) (binds e (expect-sound e kind.Comma) (λ _. binds e (expr-sound e d prec true) (λ link. binds e (add-sound e kids link) (λ more_kids. gives e)))) (gives e)
 
-    multi-sound : (from : ℕ) (l : AssignLeft) → Sound e (MultiTo from l) (multi_to (levels e d) from l)
+    multi-sound : (from : ℕ) (l : Option ℕ) → Sound e (MultiTo from l) (multi_to (levels e d) from l)
     unfolding multi_to rights row_record
-    multi-sound from (assigns.To link) = binds e (lefts-sound e d prec (row_with link)) (λ kids. binds e (expect-sound e kind.Assign) (λ _. binds e (expr-sound e d prec true) (λ val. binds e (check_sound e kind.Comma) (λ b. ifs e b
+    multi-sound from (Some link) = binds e (lefts-sound e d prec (row_with link)) (λ kids. binds e (expect-sound e kind.Assign) (λ _. binds e (expr-sound e d prec true) (λ val. binds e (check_sound e kind.Comma) (λ b. ifs e b
         (binds e (add-sound e (uncounted kids) val) (λ begun. binds e (loops e (right-turn-takes e d kids.count) (right-turn-sound kids.count) begun) (λ all. close-sound e node.AssignMulti from 0 0 (flagged kids.count all.count false false) all.first)))
         (binds e (add-sound e kids val) (λ all. close-sound e node.AssignUnpack from 0 0 (flagged kids.count 0 false false) all.first))))))
-    multi-sound from assigns.Nothing = unexpected-sound e
+    multi-sound from None = unexpected-sound e
 
     assign-of-sound : (from : ℕ) → Sound e (AssignOf from) (assign-rule (levels e d) from)
     unfolding assign-rule multi-rule
@@ -200,12 +199,12 @@ module _ (e : Sheet) where
     several : {v w : Spot} {c : ℕ} {kids : Kids} → 3 * length p.rest < 2 ^ 32 → Assignable f → Here kind.Comma q → Lefted e.text (row_with a) (at q m ys) v kids → BehindLefts (start_of p) kids v w c → Value e.text Stmt (at p n xs) w c
     several few h z (lefted count (listed g lefts)) c = by (lefts-some z g) g lefts (count 1 refl) c
       where
-        by : {i o : ℕ} {r : Place} {zs : List ℕ} {kids : Kids} {w : Spot} {c : ℕ} → Some i → (g : Derives e.text (Lefts i) q r) → ((lo c : ℕ) (ts : Trees) (es : List Entry) → 1 ≡ word32 c → Stack ys m (row lo a a ts ∷ es) → Rowed zs o lo (so kids) (shape g 0 (sofar ts c)) es)
+        by : {i o : ℕ} {r : Place} {zs : List ℕ} {kids : Kids} {w : Spot} {c : ℕ} → OneOrMore i → (g : Derives e.text (Lefts i) q r) → ((lo c : ℕ) (ts : Trees) (es : List Entry) → 1 ≡ word32 c → Stack ys m (row lo a a ts ∷ es) → Rowed zs o lo (so kids) (shape g 0 (sofar ts c)) es)
             → kids.count ≡ word32 (1 + i) → BehindLefts (start_of p) kids (at r o zs) w c → Value e.text Stmt (at p n xs) w c
         by (some i) g lefts count c = behind-lefts h g lefts few count c
 
   -- what may be assigned to, by its form
-  by_left : (C : AssignLeft → Type 0) {R : Type 0} (x : Expr) → C (to_assign_left x) → (C assigns.Nothing → ⊥) → (Assignable (form_of x) → C (assigns.To (link_of x)) → R) → R
+  by_left : (C : Option ℕ → Type 0) {R : Type 0} (x : Expr) → C (to_assign_left x) → (C None → ⊥) → (Assignable (form_of x) → C (Some (link_of x)) → R) → R
   by_left C (exprs.Name link) c n f = f a-name c
   by_left C (exprs.NameMember link) c n f = f a-member c
   by_left C (exprs.Call link called) c n f = absurd (n c)

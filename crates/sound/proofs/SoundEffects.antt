@@ -7,9 +7,8 @@ use lib.Dec.{ltb}
 use Rattle.kinds.specs.Number as kind
 use Rattle.cursor.specs.declared.Kids.{Kids}
 use Rattle.cursor.specs.declared.Label.{Label}
-use Rattle.cursor.specs.declared.Ranged.{Ranged}
+use Rattle.cursor.specs.Sheet.{Ranged, Sheet}
 use Rattle.cursor.specs.Node as node
-use Rattle.cursor.specs.Sheet.{Sheet}
 use Rattle.cursor.specs.Records.{no_kids, flagged}
 use Rattle.cursor.specs.Tree.{Trees, none, join, tree}
 use Rattle.cursor.proofs.Laws.{join-none}

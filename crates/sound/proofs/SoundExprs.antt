@@ -1,4 +1,5 @@
 -- Expressions: the claim of a rule that answers one with its form, and of a loop that makes more of one; operators of a level or higher.
+use Rattle.std.specs.Prelude.{Some, None, Option}
 use mathlib.Core.Path.{◌≡◌, refl, sym, ap, ◌∙◌}
 use mathlib.Core.List.{List, ◌∷◌}
 use mathlib.Core.Bool.{true, false}
@@ -6,11 +7,9 @@ use Prim.Native.Nat.{ℕ, suc, ◌+◌, ◌*◌, ◌≤◌}
 use lib.ListN.{length}
 use Rattle.cursor.specs.declared.State.{State}
 use Rattle.cursor.specs.declared.Label.{Label}
-use Rattle.cursor.specs.declared.Ranged.{Ranged}
-use Rattle.cursor.specs.declared.Ranged.TheVariants as ranged
+use Rattle.cursor.specs.Sheet.{Sheet, kind_at, range_at, Ranged}
 use Rattle.cursor.specs.Layout.{node_words}
 use Rattle.cursor.specs.Node as node
-use Rattle.cursor.specs.Sheet.{Sheet, kind_at, range_at}
 use Rattle.cursor.specs.Rule.{World, Next, more}
 use Rattle.cursor.specs.Records.{write, flagged}
 use Rattle.cursor.specs.Tree.{Trees, tree}
@@ -19,8 +18,6 @@ use Rattle.types.specs.Patterns.{span_of as range_of}
 use Rattle.parts.specs.declared.values.Called.{Called}
 use Rattle.parts.specs.declared.values.Expr.{Expr}
 use Rattle.parts.specs.declared.values.Expr.TheVariants as exprs
-use Rattle.parts.specs.declared.steps.Checked.{Checked}
-use Rattle.parts.specs.declared.steps.Checked.TheVariants as checked
 use Rattle.parts.specs.Values.{link_of}
 use Rattle.parts.specs.Steps.{checked_type, type_checked, type_check_at, type_check}
 use Rattle.grammar.specs.Places.{Place, kind_of, span_of, start_of, after}
@@ -93,26 +90,26 @@ onto {p = p} {last = last} {l = l} {ks = ks} h d s g (grown b k) =
 module _ (e : Sheet) where
   -- behind `is`
   pub data Tested (from : ℕ) (x : Expr) : Spot → Spot → Next Expr → Type 0 where
-    tested : {p q : Place} {n word : ℕ} {xs : List ℕ} → checked_type e.text (kind_of p) (span_of p) ≡ checked.Type word → after p ≡ q → node_words * suc n ≤ length xs
+    tested : {p q : Place} {n word : ℕ} {xs : List ℕ} → checked_type e.text (kind_of p) (span_of p) ≡ Some word → after p ≡ q → node_words * suc n ≤ length xs
         → Tested from x (at p n xs) (at q (n + 1) (write xs n (labelled node.TypeCheck from word (start_of p) 0 q) (link_of x))) (more (exprs.Other (n + 1)))
 
   module _ (from : ℕ) (x : Expr) where
-    test_by : (s : State) (w : World) → Settled e.tokens s → (r : Ranged) (c : Checked) → range_of r ≡ span_of (place_at e.tokens s) → checked_type e.text (kind_of (place_at e.tokens s)) (span_of (place_at e.tokens s)) ≡ c
+    test_by : (s : State) (w : World) → Settled e.tokens s → (r : Ranged) (c : Option ℕ) → range_of r ≡ span_of (place_at e.tokens s) → checked_type e.text (kind_of (place_at e.tokens s)) (span_of (place_at e.tokens s)) ≡ c
         → EndsBy e (Tested from x) s w (type_checked e from x (range_of r) c s w)
     unfolding type_checked
-    test_by s w h r (checked.Type k) a q = reads e (binds e (bump-sound e) (λ _. binds e (close-sound e node.TypeCheck from k (range_of r).start 0 (link_of x)) (λ link. gives e))) h (λ y b c. go (range_of r).start (ap (λ z. z.start) (sym a)) q c)
+    test_by s w h r (Some k) a q = reads e (binds e (bump-sound e) (λ _. binds e (close-sound e node.TypeCheck from k (range_of r).start 0 (link_of x)) (λ link. gives e))) h (λ y b c. go (range_of r).start (ap (λ z. z.start) (sym a)) q c)
       where
-        go : {p : Place} {n : ℕ} {xs : List ℕ} {y : Spot} {b : Next Expr} (begin : ℕ) → start_of p ≡ begin → checked_type e.text (kind_of p) (span_of p) ≡ checked.Type k
+        go : {p : Place} {n : ℕ} {xs : List ℕ} {y : Spot} {b : Next Expr} (begin : ℕ) → start_of p ≡ begin → checked_type e.text (kind_of p) (span_of p) ≡ Some k
             → Seq Bumped (λ _. Seq (Closed node.TypeCheck from k begin 0 (link_of x)) (λ link. Gave (more (exprs.Other link)))) (at p n xs) y b → Tested from x (at p n xs) y b
         go begin u v (bumped t ▸ closed o ▸ g) = going (Tested from x _) g (rw (← u) (tested v t o))
-    test_by s w h r checked.Unknown a q = (unexpected-sound e).ends s w h
+    test_by s w h r None a q = (unexpected-sound e).ends s w h
 
     test_at : (s : State) (w : World) → Settled e.tokens s → (r : Ranged) → range_at e.tokens s.at ≡ r → EndsBy e (Tested from x) s w (type_check_at e from x (kind_at e.tokens s.at) r s w)
     unfolding type_check_at
-    test_at s w h (ranged.At r) q =
+    test_at s w h (Some r) q =
         let a = span-place e s h ∙ ap range_of q in
-        test_by s w h (ranged.At r) _ (sym a) (λ i. checked_type e.text (kind-place e.tokens s h i) (a i))
-    test_at s w h ranged.Nowhere q = (unexpected-sound e).ends s w h
+        test_by s w h (Some r) _ (sym a) (λ i. checked_type e.text (kind-place e.tokens s h i) (a i))
+    test_at s w h None q = (unexpected-sound e).ends s w h
 
     pub test-sound : Sound e (Tested from x) (type_check e from x)
     unfolding type_check

@@ -1,4 +1,5 @@
 -- Functions: parse_function, and the expressions over a function without a name.
+use Rattle.std.specs.Prelude.{None}
 use mathlib.Core.Path.{◌≡◌, refl, ap, ◌∙◌}
 use mathlib.Core.List.{List}
 use mathlib.Core.Bool.{Bool, true, false}
@@ -7,7 +8,6 @@ use lib.Dec.{ltb}
 use borrow.Author.Tests.{lt-ltb}
 use Rattle.kinds.specs.Number as kind
 use Rattle.cursor.specs.declared.Kids.{Kids}
-use Rattle.cursor.specs.declared.Ranged.TheVariants as ranged
 use Rattle.cursor.specs.Node as node
 use Rattle.cursor.specs.Sheet.{Sheet}
 use Rattle.cursor.specs.Records.{no_link, no_kids, flagged}
@@ -91,7 +91,7 @@ module _ (e : Sheet) (d : ℕ) (bodies : (end : ℕ) → Sound e (Rowing e.text 
   abbrev FnOf : ℕ → ℕ → Claim ℕ
   FnOf from f = Seq (SomeAdded no_kids 0) (λ one. Seq (Added one f) (λ two. Closed node.Fn from 0 0 (flagged 0 0 false false) two.first))
 
-  fn-of-sound : (from f : ℕ) → Sound e (FnOf from f) (fn_record from ranged.Nowhere no_link f)
+  fn-of-sound : (from f : ℕ) → Sound e (FnOf from f) (fn_record from None no_link f)
   unfolding fn_record
   fn-of-sound from f = binds e (add-some-sound e no_kids 0) (λ one. binds e (add-sound e one f) (λ two. close-sound e node.Fn from 0 0 _ two.first))
 
@@ -120,13 +120,13 @@ module _ (e : Sheet) (d : ℕ) (bodies : (end : ℕ) → Sound e (Rowing e.text 
   pub fn-read : {p : Place} {n a : ℕ} {xs : List ℕ} {v : Spot} → Here kind.Fn p → FnExpr (start_of p) (at p n xs) v a → Value e.text (Atom Other) (at p n xs) v a
   unfolding shape join
   fn-read {p} h (bumped t ▸ becomes b s f ▸ none-added ▸ added-to {p = q} ▸ c) = closing (Value e.text (Atom Other) _) c (λ o.
-      value (fn-expr (record { here = h.stands; next = t }) b) (λ j. fn_over (start_of p) q ranged.Nowhere none (s j)) (λ es st. wrapped _ (as_row (f es st)) o))
+      value (fn-expr (record { here = h.stands; next = t }) b) (λ j. fn_over (start_of p) q None none (s j)) (λ es st. wrapped _ (as_row (f es st)) o))
 
   pub closure-read : {p : Place} {n a : ℕ} {xs : List ℕ} {v : Spot} → ClosureExpr (start_of p) (at p n xs) v a → Value e.text (Atom Other) (at p n xs) v a
   unfolding shape join
-  closure-read {p} (becomes b s f ▸ none-added ▸ added-to {p = q} ▸ c) = closing (Value e.text (Atom Other) _) c (λ o. value (closure-expr b) (λ j. fn_over (start_of p) q ranged.Nowhere none (s j)) (λ es st. wrapped _ (as_row (f es st)) o))
+  closure-read {p} (becomes b s f ▸ none-added ▸ added-to {p = q} ▸ c) = closing (Value e.text (Atom Other) _) c (λ o. value (closure-expr b) (λ j. fn_over (start_of p) q None none (s j)) (λ es st. wrapped _ (as_row (f es st)) o))
 
   pub do-read : {p : Place} {n a : ℕ} {xs : List ℕ} {v : Spot} → Here kind.Do p → DoExpr (start_of p) (at p n xs) v a → Value e.text (Atom Other) (at p n xs) v a
   unfolding shape join
   do-read {p} h (bumped t ▸ value b s f ▸ closed {p = r} k ▸ none-added ▸ added-to {p = q} ▸ c) = closing (Value e.text (Atom Other) _) c (λ o.
-      value (do-expr (record { here = h.stands; next = t }) b) (λ j. fn_over (start_of p) q ranged.Nowhere none (over node.Do (start_of p) q (s j))) (λ es st. wrapped _ (as_row (wrapped _ (as_row (f es st)) k)) o))
+      value (do-expr (record { here = h.stands; next = t }) b) (λ j. fn_over (start_of p) q None none (over node.Do (start_of p) q (s j))) (λ es st. wrapped _ (as_row (wrapped _ (as_row (f es st)) k)) o))

@@ -1,4 +1,5 @@
 -- Lists of items: parse_items_until_with_last, over a row that stands on the stack already.
+use Rattle.std.specs.Prelude.{None}
 use mathlib.Core.Path.{◌≡◌, refl, sym, ap, ◌∙◌, subst}
 use mathlib.Core.List.{List, ◌∷◌}
 use mathlib.Core.Bool.{Bool}
@@ -7,7 +8,6 @@ use native.Mathlib.Omega.{arith}
 use Rattle.kinds.specs.Number as kind
 use Rattle.cursor.specs.declared.Kids.{Kids}
 use Rattle.cursor.specs.declared.Label.{Label}
-use Rattle.cursor.specs.declared.Ranged.TheVariants as ranged
 use Rattle.cursor.specs.Sheet.{Sheet}
 use Rattle.cursor.specs.Rule.{Rule, Next, more, stop}
 use Rattle.cursor.specs.Records.{word32, bit, flagged}
@@ -29,7 +29,7 @@ use Rattle.sound.proofs.SoundValues.{Value, value, joined}
 
 -- a row of so many trees, with no last item
 abbrev pub sofar : Trees → ℕ → Shape
-sofar ts c = record { row = ts; count = c; last = ranged.Nowhere }
+sofar ts c = record { row = ts; count = c; last = None }
 
 -- a row of items that has become what a shape says, on a stack. A count is kept in a word
 pub record Rowed (ys : List ℕ) (m lo : ℕ) (i : Row) (f : Shape) (es : List Entry) : Type 0 where
@@ -103,7 +103,7 @@ module _ (e : Sheet) (x y : Sym) (end : ℕ) where
   and_last (ended_by d f) a t = listed (items-last d a t) f
 
   -- the list from here on
-  all : {last_kind : ℕ} {u v : Spot} {i j : Row} → i.ended ≡ ranged.Nowhere → Star (ItemTurn last_kind) i u v j → Listed e.text (Items x y end) i.kids u v j
+  all : {last_kind : ℕ} {u v : Spot} {i j : Row} → i.ended ≡ None → Star (ItemTurn last_kind) i u v j → Listed e.text (Items x y end) i.kids u v j
   unfolding shape
   all q (halt (yes-ate t ▸ gave)) = listed (items-end t) (λ lo c ts es k st. record { stack = st; count = k; last = q })
   all q (halt (not-ate n ▸ yes-saw h ▸ (given f ▸ lined a ▸ took t ▸ gave) ▸ gave)) = and_last (f h) a t
@@ -133,7 +133,7 @@ module _ (e : Sheet) (x y : Sym) (end : ℕ) where
   abbrev UntilTurn : Row → Claim (Next Row)
   UntilTurn i = Seq (Ate end) (λ b. If b (Gave (stop i)) (Seq (Value e.text x) (λ r. AfterItem e x y end i.kids r)))
 
-  plain : {u v : Spot} {i j : Row} → i.ended ≡ ranged.Nowhere → Star UntilTurn i u v j → Listed e.text (Items x y end) i.kids u v j
+  plain : {u v : Spot} {i j : Row} → i.ended ≡ None → Star UntilTurn i u v j → Listed e.text (Items x y end) i.kids u v j
   unfolding shape
   plain q (halt (yes-ate t ▸ gave)) = listed (items-end t) (λ lo c ts es k st. record { stack = st; count = k; last = q })
   plain {i = i} q (halt (not-ate n ▸ value {a = r} d s push ▸ added-to ▸ lined a ▸ yes-ate t ▸ gave)) =

@@ -1,4 +1,5 @@
 -- Calls and members behind what is read already: a turn of the loop that reads them, what all the turns come to, and members as turns.
+use Rattle.std.specs.Prelude.{Some, None}
 use mathlib.Core.Path.{◌≡◌, refl, ap, ◌∙◌}
 use mathlib.Core.List.{List, ◌∷◌}
 use mathlib.Core.Bool.{Bool, true, false}
@@ -7,10 +8,8 @@ use native.Mathlib.Omega.{arith}
 use Rattle.kinds.specs.Number as kind
 use Rattle.cursor.specs.declared.Label.{Label}
 use Rattle.cursor.specs.declared.Kids.{Kids}
-use Rattle.cursor.specs.declared.Ranged.{Ranged}
-use Rattle.cursor.specs.declared.Ranged.TheVariants as ranged
+use Rattle.cursor.specs.Sheet.{Ranged, Sheet}
 use Rattle.cursor.specs.Node as node
-use Rattle.cursor.specs.Sheet.{Sheet}
 use Rattle.cursor.specs.Rule.{Rule, Next, more, stop}
 use Rattle.cursor.specs.Records.{no_link, no_kids, flagged}
 use Rattle.cursor.specs.Tree.{Trees, join, tree}
@@ -78,11 +77,11 @@ module _ (text : List ℕ) (lambda : Bool) (from : ℕ) where
 
 -- a member as the answer says it: its link, its form, and that it is no Call
 member-held : {ys : List ℕ} {m lo last : ℕ} {l : Label} {ks : Trees} {es : List Entry} (x : Expr) (safe : Ranged) (link : ℕ) → Stack ys m (whole lo link last l ks ∷ es) → Held ys m lo last (member_of x safe link) l ks es
-member-held x (ranged.At r) link st = record { fits = fits-other; stack = st }
-member-held (exprs.Name a) ranged.Nowhere link st = record { fits = fits-member; stack = st }
-member-held (exprs.NameMember a) ranged.Nowhere link st = record { fits = fits-other; stack = st }
-member-held (exprs.Call a called) ranged.Nowhere link st = record { fits = fits-other; stack = st }
-member-held (exprs.Other a) ranged.Nowhere link st = record { fits = fits-other; stack = st }
+member-held x (Some r) link st = record { fits = fits-other; stack = st }
+member-held (exprs.Name a) None link st = record { fits = fits-member; stack = st }
+member-held (exprs.NameMember a) None link st = record { fits = fits-other; stack = st }
+member-held (exprs.Call a called) None link st = record { fits = fits-other; stack = st }
+member-held (exprs.Other a) None link st = record { fits = fits-other; stack = st }
 
 -- one more in a row, where there is one, by what becomes of any stack
 pub data Lengthened (kids : Kids) (a : ℕ) : Spot → Spot → Kids → Type 0 where
@@ -110,14 +109,14 @@ member-record-sound e from safe k x link = binds e (add-sound e no_kids (link_of
 
 module _ (text : List ℕ) (lambda : Bool) (from : ℕ) where
   -- the production of a member, by what stands before it, and of one behind `?`
-  member-post : {p q : Place} {n : ℕ} (x : Expr) (link : ℕ) (d : Derives text (Member n) p q) → Post text lambda from (form_of x) (form_of (member_of x ranged.Nowhere link)) p q (λ so. member_over from q ranged.Nowhere n so (shape d 0 blank))
+  member-post : {p q : Place} {n : ℕ} (x : Expr) (link : ℕ) (d : Derives text (Member n) p q) → Post text lambda from (form_of x) (form_of (member_of x None link)) p q (λ so. member_over from q None n so (shape d 0 blank))
   unfolding shape
   member-post (exprs.Name a) link d = record { before = λ g r b. member d b; before-is = λ g r b so. refl }
   member-post (exprs.NameMember a) link d = record { before = λ g r b. member d b; before-is = λ g r b so. refl }
   member-post (exprs.Call a called) link d = record { before = λ g r b. member d b; before-is = λ g r b so. refl }
   member-post (exprs.Other a) link d = record { before = λ g r b. member d b; before-is = λ g r b so. refl }
 
-  safe-post : {o p q : Place} {n : ℕ} (x : Expr) (link : ℕ) → Tok kind.Question o p → (d : Derives text (Member n) p q) → Post text lambda from (form_of x) (form_of (member_of x (ranged.At (span_of o)) link)) o q (λ so. member_over from q (ranged.At (span_of o)) n so (shape d 0 blank))
+  safe-post : {o p q : Place} {n : ℕ} (x : Expr) (link : ℕ) → Tok kind.Question o p → (d : Derives text (Member n) p q) → Post text lambda from (form_of x) (form_of (member_of x (Some (span_of o)) link)) o q (λ so. member_over from q (Some (span_of o)) n so (shape d 0 blank))
   unfolding shape
   safe-post x link t d = record { before = λ g r b. safe-member t d b; before-is = λ g r b so. refl }
 
@@ -219,8 +218,8 @@ module _ (e : Sheet) (d : ℕ) (wholes : (lambda : Bool) → Sound e (Value e.te
       one_of_three over (later-one i (later-one j (later-one k c))) = over i j k c
 
     pub access-read : {p : Place} {n : ℕ} {xs : List ℕ} {v : Spot} {b : Next Expr} → Not kind.OpenParen p → NoLambda lambda p → Accessed from x (at p n xs) v b → PostTurn e.text lambda from x (at p n xs) v b
-    access-read o l (ranges {p = p} t ▸ c) = one_of_three (ranged.At (span_of p)) (λ k link q d. safe-post e.text lambda from x link t d) (λ _ _ _ q. absurd q) c
-    access-read o l (no-range m ▸ c) = one_of_three ranged.Nowhere (λ k link q d. member-post e.text lambda from x link d) (λ i j k q. ended o m i j k l q) c
+    access-read o l (ranges {p = p} t ▸ c) = one_of_three (Some (span_of p)) (λ k link q d. safe-post e.text lambda from x link t d) (λ _ _ _ q. absurd q) c
+    access-read o l (no-range m ▸ c) = one_of_three None (λ k link q d. member-post e.text lambda from x link d) (λ i j k q. ended o m i j k l q) c
       where
         ended : {p : Place} {n : ℕ} {xs : List ℕ} {v : Spot} {b : Next Expr} → Not kind.OpenParen p → Not kind.Question p → Not kind.OpenBracket p → Not kind.Dot p → Not kind.DoubleColon p → NoLambda lambda p → Gave (stop x) (at p n xs) v b → PostTurn e.text lambda from x (at p n xs) v b
         ended o m i j k l gave = stops (from_all o (from_all m (from_all i (from_all j (from_all k from-none))))) l

@@ -1,4 +1,5 @@
 -- Patterns, for every depth.
+use Rattle.std.specs.Prelude.{Some}
 use mathlib.Core.Path.{◌≡◌, refl, sym, ap}
 use mathlib.Core.List.{List}
 use mathlib.Core.Bool.{false}
@@ -6,7 +7,6 @@ use Prim.Native.Nat.{ℕ, zero, suc}
 use Rattle.kinds.specs.Number as kind
 use Rattle.cursor.specs.declared.Kids.{Kids}
 use Rattle.cursor.specs.declared.Span.{Span}
-use Rattle.cursor.specs.declared.Ranged.TheVariants as ranged
 use Rattle.cursor.specs.Node as node
 use Rattle.cursor.specs.Sheet.{Sheet}
 use Rattle.cursor.specs.Records.{no_kids, flagged}
@@ -16,8 +16,7 @@ use Rattle.cursor.proofs.Grows.{begin, as_row}
 use Rattle.types.specs.declared.items.Items.{Items as Row}
 use Rattle.types.specs.Items.{is_ended}
 use Rattle.types.specs.ItemRules as items
-use Rattle.types.specs.Patterns.{pattern_end, pattern_last, table_pattern_pair, pattern_item, pattern_items, pattern_row, pattern_cases, pattern, patterns}
-use Rattle.types.specs.Patterns.{span_of as range_of}
+use Rattle.types.specs.Patterns.{pattern_end, pattern_last, table_pattern_pair, pattern_item, pattern_items, pattern_row, pattern_cases, pattern, patterns, span_of as range_of}
 use Rattle.types.proofs.PatternKeeps.{pattern-items-take}
 use Rattle.grammar.specs.Places.{Place, span_of, start_of, Here}
 use Rattle.grammar.specs.Symbols.{Sym, Until, Dots, Lit, Ident, Pattern, PatternPair}
@@ -34,8 +33,8 @@ pub dots-sound : (e : Sheet) (i : Row) → Sound e (Given kind.Ellipsis (Ended e
 unfolding pattern_last shape
 dots-sound e i = record { ends = λ s w h. reads e (binds e (bump-sound e) (λ _. gives e)) h (λ v j c. go _ (span-place e s h) c) }
   where
-    go : {p : Place} {n : ℕ} {xs : List ℕ} {v : Spot} {j : Row} (r : Span) → span_of p ≡ r → Seq Bumped (λ _. Gave (record { kids = i.kids; ended = ranged.At r })) (at p n xs) v j → Given kind.Ellipsis (Ended e.text Dots i) (at p n xs) v j
-    go r q (bumped a ▸ gave) = given (λ h. ended_by (dots (record { here = h.stands; next = a })) (λ lo c ts es k st. record { stack = retree (sym (join-none ts)) st; count = k; last = ap ranged.At (sym q) }))
+    go : {p : Place} {n : ℕ} {xs : List ℕ} {v : Spot} {j : Row} (r : Span) → span_of p ≡ r → Seq Bumped (λ _. Gave (record { kids = i.kids; ended = Some r })) (at p n xs) v j → Given kind.Ellipsis (Ended e.text Dots i) (at p n xs) v j
+    go r q (bumped a ▸ gave) = given (λ h. ended_by (dots (record { here = h.stands; next = a })) (λ lo c ts es k st. record { stack = retree (sym (join-none ts)) st; count = k; last = ap Some (sym q) }))
 
 module _ (e : Sheet) (d : ℕ) (inner : Sound e (Value e.text Pattern) (patterns e d)) where
   pair_read : Sound e (Value e.text PatternPair) (table_pattern_pair e (patterns e d))

@@ -1,4 +1,5 @@
 -- Operators of a level or higher: parse_expr_precedence, over its unary forms and the expressions one level further in.
+use Rattle.std.specs.Prelude.{Some, None, Option}
 use mathlib.Core.Path.{◌≡◌, refl, sym, ap, ◌∙◌, subst}
 use mathlib.Core.List.{List, ◌∷◌}
 use mathlib.Core.Bool.{Bool, true, false}
@@ -7,8 +8,7 @@ use native.Mathlib.Omega.{arith}
 use lib.Dec.{ltb, eqb}
 use borrow.Author.Tests.{ltb-true, ltb-false, eqb-true, eqb-false}
 use Rattle.kinds.specs.Number as kind
-use Rattle.kinds.specs.declared.operator.Operator.{Operator}
-use Rattle.kinds.specs.declared.operator.Operator.TheVariants as operators
+use Rattle.kinds.specs.declared.operator.BinOp.{BinOp}
 use Rattle.kinds.specs.Operators.{binary_of, precedence_of, level_by, level_of}
 use Rattle.cursor.specs.declared.State.{State}
 use Rattle.cursor.specs.declared.Label.{Label}
@@ -23,7 +23,6 @@ use Rattle.cursor.proofs.Stack.{Entry, whole, Stack}
 use Rattle.cursor.proofs.Grows.{as_row}
 use Rattle.parts.specs.declared.values.Expr.{Expr}
 use Rattle.parts.specs.declared.values.Expr.TheVariants as exprs
-use Rattle.parts.specs.declared.steps.Checked.TheVariants as checked
 use Rattle.parts.specs.Values.{link_of}
 use Rattle.parts.specs.Records.{couple}
 use Rattle.parts.specs.Steps.{checked_type}
@@ -48,7 +47,7 @@ pub data InfixTurn (text : List ℕ) (n : ℕ) (lambda : Bool) (from : ℕ) (x :
   goes : {p q r : Place} {m o k a last : ℕ} {h : Form} {xs ys : List ℕ} {i : Label} {js : Trees} → n ≤ level_of k → (k ≡ kind.Is → ⊥) → Tok k p q → (d : Derives text (Prec (level_of k + 1) lambda h) q r) → shape d 0 blank ≡ only (tree i js)
       → ((lo z : ℕ) (l : Label) (ks : Trees) (es : List Entry) → Stack xs m (whole lo (link_of x) z l ks ∷ es) → Stack ys o (whole lo a last (labelled node.Binary from k 0 0 r) (join (tree l ks) (tree i js)) ∷ es))
       → InfixTurn text n lambda from x (at p m xs) (at r o ys) (more (exprs.Other a))
-  tests : {p q r : Place} {m o a last word : ℕ} {xs ys : List ℕ} → n ≤ level_of kind.Is → Tok kind.Is p q → checked_type text (kind_of q) (span_of q) ≡ checked.Type word → after q ≡ r
+  tests : {p q r : Place} {m o a last word : ℕ} {xs ys : List ℕ} → n ≤ level_of kind.Is → Tok kind.Is p q → checked_type text (kind_of q) (span_of q) ≡ Some word → after q ≡ r
       → ((lo z : ℕ) (l : Label) (ks : Trees) (es : List Entry) → Stack xs m (whole lo (link_of x) z l ks ∷ es) → Stack ys o (whole lo a last (labelled node.TypeCheck from word (start_of q) 0 r) (tree l ks) ∷ es))
       → InfixTurn text n lambda from x (at p m xs) (at r o ys) (more (exprs.Other a))
 
@@ -68,7 +67,7 @@ module _ (text : List ℕ) (n : ℕ) (lambda : Bool) (from : ℕ) where
         push = λ lo es x. o.push lo es (record { fits = fits-other; stack = f lo last l ks es x.stack });
       })
 
-  and-test : {p q r : Place} {m o a last word : ℕ} {xs ys : List ℕ} {x z : Expr} {v : Spot} → n ≤ level_of kind.Is → Tok kind.Is p q → checked_type text (kind_of q) (span_of q) ≡ checked.Type word → after q ≡ r
+  and-test : {p q r : Place} {m o a last word : ℕ} {xs ys : List ℕ} {x z : Expr} {v : Spot} → n ≤ level_of kind.Is → Tok kind.Is p q → checked_type text (kind_of q) (span_of q) ≡ Some word → after q ≡ r
       → ((lo z : ℕ) (l : Label) (ks : Trees) (es : List Entry) → Stack xs m (whole lo (link_of x) z l ks ∷ es) → Stack ys o (whole lo a last (labelled node.TypeCheck from word (start_of q) 0 r) (tree l ks) ∷ es))
       → Grown text (Ops n lambda) from (exprs.Other a) (at r o ys) v z → Grown text (Ops n lambda) from x (at p m xs) v z
   unfolding shape
@@ -119,13 +118,13 @@ module _ (e : Sheet) (d : ℕ) (prec : (n : ℕ) (lambda : Bool) → Sound e (Ex
     unfolding infix_turn infix_by level_of
     infix-sound some x = record { ends = λ s w h. by s w h _ refl }
       where
-        level : (s : State) → Settled e.tokens s → (o : Operator) → binary_of (kind_at e.tokens s.at) ≡ o → level_of (kind_of (place_at e.tokens s)) ≡ level_by o
+        level : (s : State) → Settled e.tokens s → (o : Option BinOp) → binary_of (kind_at e.tokens s.at) ≡ o → level_of (kind_of (place_at e.tokens s)) ≡ level_by o
         level s h o q = ap level_of (kind-place e.tokens s h) ∙ ap level_by q
 
-        by : (s : State) (w : World) → Settled e.tokens s → (o : Operator) → binary_of (kind_at e.tokens s.at) ≡ o → EndsBy e (InfixTurn e.text n lambda from x) s w (infix_by (levels e d) from n lambda x (kind_at e.tokens s.at) o s w)
-        by s w h operators.Nothing q = well (holds e h refl (stops (let i = level s h operators.Nothing q in omega (arith, i, some))))
-        by s w h (operators.Binary op) q = branch (ltb (precedence_of op) n)
-            (λ t. well (holds e h refl (stops (let i = level s h (operators.Binary op) q in let j = ltb-true (precedence_of op) n t in omega (arith, i, j)))))
+        by : (s : State) (w : World) → Settled e.tokens s → (o : Option BinOp) → binary_of (kind_at e.tokens s.at) ≡ o → EndsBy e (InfixTurn e.text n lambda from x) s w (infix_by (levels e d) from n lambda x (kind_at e.tokens s.at) o s w)
+        by s w h None q = well (holds e h refl (stops (let i = level s h None q in omega (arith, i, some))))
+        by s w h (Some op) q = branch (ltb (precedence_of op) n)
+            (λ t. well (holds e h refl (stops (let i = level s h (Some op) q in let j = ltb-true (precedence_of op) n t in omega (arith, i, j)))))
             (λ t. reads e (binds e (bump-sound e) (λ _. operated-sound x _ (precedence_of op) (ap level_by q))) h
             (λ v b c. operated-read x (let i : level_of (kind_at e.tokens s.at) ≡ precedence_of op = ap level_by q in let j = ltb-false (precedence_of op) n t in omega (arith, i, j)) (kind-place e.tokens s h) c))
 

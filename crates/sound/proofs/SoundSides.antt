@@ -1,5 +1,6 @@
 -- The sides of an assignment to several: left sides up to the sign, and as many right sides. The rules count in words, so the numbers of the two
 -- are related by words.
+use Rattle.std.specs.Prelude.{Some, None}
 use mathlib.Core.Path.{◌≡◌, refl, sym, ap, ◌∙◌}
 use mathlib.Core.List.{List, ◌∷◌}
 use mathlib.Core.Bool.{Bool, true, false}
@@ -10,9 +11,7 @@ use borrow.Author.Tests.{ltb-true, ltb-false}
 use Rattle.kinds.specs.Number as kind
 use Rattle.cursor.specs.declared.Kids.{Kids}
 use Rattle.cursor.specs.declared.Label.{Label}
-use Rattle.cursor.specs.declared.Ranged.{Ranged}
-use Rattle.cursor.specs.declared.Ranged.TheVariants as ranged
-use Rattle.cursor.specs.Sheet.{Sheet}
+use Rattle.cursor.specs.Sheet.{Ranged, Sheet}
 use Rattle.cursor.specs.Rule.{Rule, ◌>>=◌, give, Next, more, stop}
 use Rattle.cursor.specs.Records.{word32, add}
 use Rattle.cursor.specs.Tree.{Trees, join, tree}
@@ -40,10 +39,10 @@ use Rattle.sound.proofs.SoundNames.{Rowing}
 use Rattle.sound.proofs.SoundExprs.{Expressed, expressed}
 
 -- one or more
-pub data Some : ℕ → Type 0 where
-  some : (n : ℕ) → Some (suc n)
+pub data OneOrMore : ℕ → Type 0 where
+  some : (n : ℕ) → OneOrMore (suc n)
 
-pub lefts-some : {text : List ℕ} {n : ℕ} {p q : Place} → Here kind.Comma p → Derives text (Lefts n) p q → Some n
+pub lefts-some : {text : List ℕ} {n : ℕ} {p q : Place} → Here kind.Comma p → Derives text (Lefts n) p q → OneOrMore n
 lefts-some h (no-left n) = absurd (n.differs h.stands)
 lefts-some h (a-left t d a e) = some _
 
@@ -81,8 +80,8 @@ module _ (e : Sheet) where
   JoinedTo kids (exprs.Other link) = Nothing
 
   abbrev LeftOf : Kids → Ranged → Claim (Next Kids)
-  LeftOf kids ranged.Nowhere = Gave (stop kids)
-  LeftOf kids (ranged.At comma) = Seq (Expressed e.text (Prec 1 true)) (λ x. JoinedTo kids x)
+  LeftOf kids None = Gave (stop kids)
+  LeftOf kids (Some comma) = Seq (Expressed e.text (Prec 1 true)) (λ x. JoinedTo kids x)
 
   abbrev pub LeftTurn : Kids → Claim (Next Kids)
   LeftTurn kids = Seq (Ranges kind.Comma) (λ comma. LeftOf kids comma)
@@ -90,8 +89,8 @@ module _ (e : Sheet) where
   module _ (d : ℕ) (prec : (n : ℕ) (lambda : Bool) → Sound e (Expressed e.text (Prec (n + 1) lambda)) ((levels e d).prec (n + 1) lambda)) where
     left-of-sound : (comma : Ranged) (kids : Kids) → Sound e (LeftOf kids comma) (left_of (levels e d) comma kids)
     unfolding left_of
-    left-of-sound ranged.Nowhere kids = gives e
-    left-of-sound (ranged.At comma) kids = after-expr e (JoinedTo kids) _ (prec 0 true) joins joins (λ link called. record { ends = λ s w h. ill (came-refl e h) }) (λ link. record { ends = λ s w h. ill (came-refl e h) })
+    left-of-sound None kids = gives e
+    left-of-sound (Some comma) kids = after-expr e (JoinedTo kids) _ (prec 0 true) joins joins (λ link called. record { ends = λ s w h. ill (came-refl e h) }) (λ link. record { ends = λ s w h. ill (came-refl e h) })
       where
         joins : (link : ℕ) → Sound e (Seq (Added kids link) (λ all. Gave (more all))) (add kids link >>= (λ all. give (more all)))
         joins link = binds e (add-sound e kids link) (λ all. gives e)

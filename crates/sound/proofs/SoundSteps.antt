@@ -1,4 +1,5 @@
 -- The claims of cursor's rules: what they take and see, and what they write.
+use Rattle.std.specs.Prelude.{Some, None}
 use mathlib.Core.Path.{◌≡◌, refl, sym, ap, ◌∙◌, subst}
 use mathlib.Core.List.{List, [], ◌∷◌}
 use mathlib.Core.Bool.{Bool, true, false}
@@ -11,10 +12,8 @@ use Rattle.kinds.specs.Number as kind
 use Rattle.cursor.specs.declared.State.{State}
 use Rattle.cursor.specs.declared.Kids.{Kids}
 use Rattle.cursor.specs.declared.Label.{Label}
-use Rattle.cursor.specs.declared.Ranged.{Ranged}
-use Rattle.cursor.specs.declared.Ranged.TheVariants as ranged
+use Rattle.cursor.specs.Sheet.{Sheet, count, kind_at, range_at, Ranged}
 use Rattle.cursor.specs.Layout.{node_words, node_limit}
-use Rattle.cursor.specs.Sheet.{Sheet, count, kind_at, range_at}
 use Rattle.cursor.specs.Rule.{World, Rule, Next, more, stop}
 use Rattle.cursor.specs.Tokens.{past_trivia, eat_trivia, bump, eol_turn, eat_eol}
 use Rattle.cursor.specs.Checks.{live_room, want, check, eat, unexpected, expect, eat_range, Case, ◌⇒◌, choose}
@@ -45,8 +44,8 @@ pub data Ate (k : ℕ) : Spot → Spot → Bool → Type 0 where
 
 -- the same, where its range is the answer
 pub data Ranges (k : ℕ) : Spot → Spot → Ranged → Type 0 where
-  ranges : {p q : Place} {n : ℕ} {xs : List ℕ} → Tok k p q → Ranges k (at p n xs) (at q n xs) (ranged.At (span_of p))
-  no-range : {p : Place} {n : ℕ} {xs : List ℕ} → Not k p → Ranges k (at p n xs) (at p n xs) ranged.Nowhere
+  ranges : {p q : Place} {n : ℕ} {xs : List ℕ} → Tok k p q → Ranges k (at p n xs) (at q n xs) (Some (span_of p))
+  no-range : {p : Place} {n : ℕ} {xs : List ℕ} → Not k p → Ranges k (at p n xs) (at p n xs) None
 
 -- is it here?
 pub data Saw (k : ℕ) : Spot → Spot → Bool → Type 0 where
@@ -172,16 +171,16 @@ module _ (e : Sheet) where
       go false q = rw (q, range_at) (ap span_in (view-past e.tokens _ (ltb-false _ _ q)))
 
   -- where the input has not ended the token here has one
-  pub range-place : (s : State) (k : ℕ) → (k ≡ kind.Eof → ⊥) → Settled e.tokens s → kind_of (place_at e.tokens s) ≡ k → range_at e.tokens s.at ≡ ranged.At (span_of (place_at e.tokens s))
+  pub range-place : (s : State) (k : ℕ) → (k ≡ kind.Eof → ⊥) → Settled e.tokens s → kind_of (place_at e.tokens s) ≡ k → range_at e.tokens s.at ≡ Some (span_of (place_at e.tokens s))
   range-place s k n h q =
       let r = range-in e.tokens s.at (there e.tokens s.at (λ z. n (sym q ∙ kind-place e.tokens s h ∙ z))) in
-      r ∙ ap ranged.At (sym (span-place s h ∙ ap range_of r))
+      r ∙ ap Some (sym (span-place s h ∙ ap range_of r))
 
   pub eat-range-sound : (k : ℕ) → (k ≡ kind.Eof → ⊥) → Sound e (Ranges k) (eat_range e k)
   unfolding eat_range
   eat-range-sound k n = record { ends = λ s w h. reads e (binds e (check_sound k) (λ here. ifs e here (binds e bump-sound (λ _. gives e)) (gives e))) h (λ y a c. go (range-place s k n h) c) }
     where
-      go : {p : Place} {m : ℕ} {xs : List ℕ} {y : Spot} {r a : Ranged} → (kind_of p ≡ k → r ≡ ranged.At (span_of p)) → Seq (Saw k) (λ here. If here (Seq Bumped (λ _. Gave r)) (Gave ranged.Nowhere)) (at p m xs) y a → Ranges k (at p m xs) y a
+      go : {p : Place} {m : ℕ} {xs : List ℕ} {y : Spot} {r a : Ranged} → (kind_of p ≡ k → r ≡ Some (span_of p)) → Seq (Saw k) (λ here. If here (Seq Bumped (λ _. Gave r)) (Gave None)) (at p m xs) y a → Ranges k (at p m xs) y a
       go {p} {m} {xs} f (yes-saw h ▸ bumped {q = q} t ▸ gave) = subst (λ z. Ranges k (at p m xs) (at q m xs) z) (sym (f h.stands)) (ranges (record { here = h.stands; next = t }))
       go f (not-saw h ▸ gave) = no-range h
 

@@ -1,4 +1,5 @@
 -- Statements: parse_stmt. That functions are sound, and that the attempt at a named one touches no record which was there before, is handed over.
+use Rattle.std.specs.Prelude.{Some, None}
 use mathlib.Core.Path.{refl, ap, subst}
 use mathlib.Core.List.{List, ◌∷◌}
 use mathlib.Core.Bool.{Bool, true, false}
@@ -11,10 +12,8 @@ use Rattle.kinds.specs.Number as kind
 use Rattle.cursor.specs.declared.State.{State}
 use Rattle.cursor.specs.declared.Kids.{Kids}
 use Rattle.cursor.specs.declared.Label.{Label}
-use Rattle.cursor.specs.declared.Ranged.{Ranged}
-use Rattle.cursor.specs.declared.Ranged.TheVariants as ranged
+use Rattle.cursor.specs.Sheet.{Sheet, range_at, Ranged}
 use Rattle.cursor.specs.Node as node
-use Rattle.cursor.specs.Sheet.{Sheet, range_at}
 use Rattle.cursor.specs.Rule.{◌>>=◌}
 use Rattle.cursor.specs.Records.{add, no_kids, flagged}
 use Rattle.cursor.specs.Tree.{Trees, join, tree}
@@ -86,20 +85,20 @@ module _ (e : Sheet) (d : ℕ) (prec : (n : ℕ) (lambda : Bool) → Sound e (Ex
 
   function-stmt-sound : Sound e (Value e.text Stmt) (function_stmt (levels e d))
   unfolding function_stmt shape
-  function-stmt-sound = maps e (λ u v a c. go c) (binds e (start-sound e) (λ from. named-sound from ranged.Nowhere))
+  function-stmt-sound = maps e (λ u v a c. go c) (binds e (start-sound e) (λ from. named-sound from None))
     where
-      go : {u v : Spot} {a : ℕ} → Seq Started (λ from. Named from ranged.Nowhere) u v a → Value e.text Stmt u v a
-      go (started {p = p} ▸ took t ▸ value b s f ▸ becomes c y g ▸ fn-built {p = q} h) = value (fn-stmt t b c) (λ i. fn_over (start_of p) q ranged.Nowhere (s i).row (y i)) (λ es st. let o = f es st in h (link-some o) _ _ _ _ _ _ es (g _ (as_row o)))
+      go : {u v : Spot} {a : ℕ} → Seq Started (λ from. Named from None) u v a → Value e.text Stmt u v a
+      go (started {p = p} ▸ took t ▸ value b s f ▸ becomes c y g ▸ fn-built {p = q} h) = value (fn-stmt t b c) (λ i. fn_over (start_of p) q None (s i).row (y i)) (λ es st. let o = f es st in h (link-some o) _ _ _ _ _ _ es (g _ (as_row o)))
 
   -- behind `glo`, whose range is a word of what stands there
   abbrev GloOf : ℕ → Ranged → Claim ℕ
   GloOf from here = Seq Bumped (λ _. Way kind.Fn (Named from here) (Way kind.Effect (Becomes e.text Effect 0 (λ q f. effect_over from q here f))
       (Seq (Value e.text (Typed Ty)) (λ name. Seq (Took kind.Assign) (λ _. RightOf e.text node.GloAssign from 0 name)))))
 
-  glo-read : {p : Place} {n a : ℕ} {xs : List ℕ} {v : Spot} → Here kind.Glo p → GloOf (start_of p) (ranged.At (span_of p)) (at p n xs) v a → Value e.text Stmt (at p n xs) v a
+  glo-read : {p : Place} {n a : ℕ} {xs : List ℕ} {v : Spot} → Here kind.Glo p → GloOf (start_of p) (Some (span_of p)) (at p n xs) v a → Value e.text Stmt (at p n xs) v a
   unfolding shape
   glo-read {p} h (bumped t ▸ this-one _ (took k ▸ value b s f ▸ becomes c y g ▸ fn-built {p = q} o)) =
-      value (glo-fn (record { here = h.stands; next = t }) k b c) (λ i. fn_over (start_of p) q (ranged.At (span_of p)) (s i).row (y i)) (λ es st. let x = f es st in o (link-some x) _ _ _ _ _ _ es (g _ (as_row x)))
+      value (glo-fn (record { here = h.stands; next = t }) k b c) (λ i. fn_over (start_of p) q (Some (span_of p)) (s i).row (y i)) (λ es st. let x = f es st in o (link-some x) _ _ _ _ _ _ es (g _ (as_row x)))
   glo-read h (bumped t ▸ later-one _ (this-one _ (becomes b s f))) = value (glo-effect (record { here = h.stands; next = t }) b) s f
   glo-read {p} h (bumped t ▸ later-one _ (later-one _ (value b s f ▸ took k ▸ right_of {q = q} c y g))) =
       value (glo-assign (record { here = h.stands; next = t }) b k c) (λ i. couple node.GloAssign (start_of p) q (s i) (y i)) (λ es st. g _ _ es (as_row (f es st)))
@@ -119,13 +118,13 @@ module _ (e : Sheet) (d : ℕ) (prec : (n : ℕ) (lambda : Bool) → Sound e (Ex
     -- a statement that is no named function
     pub plain-sound : Sound e (Value e.text Stmt) (plain-rule (levels e d))
     unfolding plain-rule shape
-    plain-sound = maps e (λ u v a c. go c) (binds e (start-sound e) (λ from. chooses e (stmt_cases (levels e d) from) (way e (import-sound e from) (way e (effect-sound e from ranged.Nowhere d) (way e (glo-sound from) (otherwise e (assign-sound e d prec few from)))))))
+    plain-sound = maps e (λ u v a c. go c) (binds e (start-sound e) (λ from. chooses e (stmt_cases (levels e d) from) (way e (import-sound e from) (way e (effect-sound e from None d) (way e (glo-sound from) (otherwise e (assign-sound e d prec few from)))))))
       where
         begun : {p : Place} {n a : ℕ} {xs : List ℕ} {v : Spot} → StmtFrom e.text (start_of p) (at p n xs) v a → Value e.text Stmt (at p n xs) v a
         begun (stmt-from f) = f refl
 
         go : {u v : Spot} {a : ℕ} → Seq Started (λ from. Way kind.Import (Seq Bumped (λ _. Becomes e.text Path from (λ q f. f)))
-            (Way kind.Effect (Becomes e.text Effect 0 (λ q f. effect_over from q ranged.Nowhere f)) (Way kind.Glo (Given kind.Glo (StmtFrom e.text from)) (StmtFrom e.text from)))) u v a → Value e.text Stmt u v a
+            (Way kind.Effect (Becomes e.text Effect 0 (λ q f. effect_over from q None f)) (Way kind.Glo (Given kind.Glo (StmtFrom e.text from)) (StmtFrom e.text from)))) u v a → Value e.text Stmt u v a
         go (started ▸ this-one h (bumped t ▸ becomes b s f)) = value (import-stmt (record { here = h.stands; next = t }) b) s f
         go (started ▸ later-one _ (this-one h (becomes b s f))) = value (effect-stmt b) s f
         go (started ▸ later-one _ (later-one _ (this-one h (given f)))) = begun (f h)

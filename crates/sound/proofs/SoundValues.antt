@@ -1,4 +1,5 @@
 -- Values: a rule that answers the link to one tree. Where it starts, how its record is closed; literals and names.
+use Rattle.std.specs.Prelude.{Some, None}
 use mathlib.Core.Path.{◌≡◌, refl, sym, ap, ◌∙◌, subst}
 use mathlib.Core.List.{List, [], ◌∷◌}
 use mathlib.Core.Bool.{Bool, true, false, true≢false}
@@ -13,11 +14,9 @@ use Rattle.cursor.specs.declared.State.{State}
 use Rattle.cursor.specs.declared.Kids.{Kids}
 use Rattle.cursor.specs.declared.Label.{Label}
 use Rattle.cursor.specs.declared.Span.{Span}
-use Rattle.cursor.specs.declared.Ranged.{Ranged}
-use Rattle.cursor.specs.declared.Ranged.TheVariants as ranged
+use Rattle.cursor.specs.Sheet.{Sheet, count, kind_at, range_at, Ranged}
 use Rattle.cursor.specs.Layout.{node_words}
 use Rattle.cursor.specs.Node as node
-use Rattle.cursor.specs.Sheet.{Sheet, count, kind_at, range_at}
 use Rattle.cursor.specs.Rule.{World, world}
 use Rattle.cursor.specs.Records.{write, no_kids}
 use Rattle.cursor.specs.Tree.{Trees, none, join, tree}
@@ -144,12 +143,12 @@ module _ (e : Sheet) where
   -- names
   ident-at : (s : State) (w : World) → Settled e.tokens s → (r : Ranged) → range_at e.tokens s.at ≡ r → EndsBy e (Value e.text Ident) s w (ident_at e r s w)
   unfolding ident_at shape
-  ident-at s w h (ranged.At r) q =
+  ident-at s w h (Some r) q =
       reads e (binds e (expect-sound e kind.Ident) (λ _. append-sound e (leaf_label node.Ident r 0) 0)) h (λ y a c. go (span-place e s h ∙ ap range_of q) (end-place s h (ap is_ended q) ∙ ap (λ z. (range_of z).end) q) c)
     where
       go : {p : Place} {n a : ℕ} {xs : List ℕ} {y : Spot} → span_of p ≡ r → (after p).prev ≡ r.end → Seq (Took kind.Ident) (λ _. Appended (leaf_label node.Ident r 0) 0) (at p n xs) y a → Value e.text Ident (at p n xs) y a
       go u v (took t ▸ appended f) = value (an-ident t) (λ i. only (tree (record { kind = node.Ident; start = (u i).start; end = (ap (λ z. z.prev) (sym t.next) ∙ v) i; one = 0; two = 0; flags = 0 }) none)) (λ es st. wrapped _ (begin st) f)
-  ident-at s w h ranged.Nowhere q = (unexpected-sound e).ends s w h
+  ident-at s w h None q = (unexpected-sound e).ends s w h
 
   pub ident-sound : Sound e (Value e.text Ident) (ident e)
   unfolding ident
@@ -167,8 +166,8 @@ module _ (e : Sheet) where
 
   lit-at : (s : State) (w : World) → Settled e.tokens s → (r : Ranged) → range_at e.tokens s.at ≡ r → EndsBy e (Value e.text Lit) s w (lit_at e (kind_at e.tokens s.at) r s w)
   unfolding lit_at
-  lit-at s w h (ranged.At r) q = lit-from s w h r _ (λ i. literal e.text (kind-place e.tokens s h i) ((span-place e s h ∙ ap range_of q) i))
-  lit-at s w h ranged.Nowhere q = (unexpected-sound e).ends s w h
+  lit-at s w h (Some r) q = lit-from s w h r _ (λ i. literal e.text (kind-place e.tokens s h i) ((span-place e s h ∙ ap range_of q) i))
+  lit-at s w h None q = (unexpected-sound e).ends s w h
 
   pub lit-sound : Sound e (Value e.text Lit) (lit e)
   unfolding lit

@@ -3,22 +3,17 @@
 // (4 bytes, the lowest first) with that bundle. oracle/types makes the cases and says what is to be printed.
 #![tactic(auto)]
 
-ghost use Rattle.std.specs.Prelude.{◌≡◌, List, ℕ};
-ghost use Rattle.cursor.specs.Sheet.{sheet};
-ghost use Rattle.cursor.specs.Rule.{world};
-ghost use Rattle.cursor.specs.Answers.{as_built};
+ghost use Rattle.std.specs.Prelude.{◌≡◌};
+ghost use Rattle.cursor.specs.Answers.{sheet_of, run, number, ended, SameErrors};
 ghost use Rattle.type_cases.specs.Forms.{by_form};
 
-use cursor::records::{FLAGS, NODE_WORDS, ONE, TWO, log_error};
-use cursor::{Built, Failure, Fault, Limits, Moved, State};
-use listing::{Counts, Decoded, Listed};
+use cursor::records::{FLAGS, NODE_WORDS, ONE, TWO};
+use cursor::{BEGIN, Fault, LIVE_ROOM, Limits, Parser, Refusal, Sheet, State, Stop};
+use listing::{Counts, LENT_NODES};
+use std::io;
+use std::io::Write;
 use types::patterns::pattern;
 use types::types::{ty, type_atom};
-
-// The numbers of the open files of a program: the standard input and output.
-const STDIN_FILENO: i32 = 0;
-
-const STDOUT_FILENO: i32 = 1;
 
 // The bytes of a case before its bundle.
 const HEAD: usize = 6;
@@ -28,227 +23,181 @@ const TYPE: u8 = 0;
 
 const ATOM: u8 = 1;
 
-// Where a reading starts.
-const START: State = State {
-    at: 0,
-    prev: 0,
-    reads: 0,
-    nodes: 0,
-    errors: 0,
-    wanted: 0,
-    live: 0,
-};
-
-fn print_listed(out: &[u8], listed: Listed) {
+fn print_listed(output: &mut impl Write, out: &[u8], listed: Option<usize>) -> io::Result<()> {
     match listed {
-        Listed::Written(n) => {
-            if n <= out.len() {
-                io::write_all(STDOUT_FILENO, &out[..n]);
-            }
-        }
-        Listed::NoRoom => {
-            io::write_all(STDOUT_FILENO, b"no room\n");
-        }
+        Some(n) => output.write_all(out.get(..n).unwrap_or_default()),
+        None => output.write_all(b"no room\n"),
     }
 }
 
-fn print_listing(nodes: &[u32], errors: &[u32], expected: &[u8], counts: Counts) {
+fn print_listing(
+    output: &mut impl Write,
+    nodes: &[u32],
+    errors: &[u32],
+    expected: &[u8],
+    counts: Counts,
+) -> io::Result<()> {
     let mut out = [0u8; 16384];
     let listed = listing::listing(nodes, errors, expected, &mut out, counts);
-    print_listed(&out, listed);
+    print_listed(output, &out, listed)
 }
 
-// A refusal's number is 7 to 11.
-fn print_refusal(number: u32) {
-    if 11 < number {
-        return;
+// The number that the document gives a refusal.
+fn number(refusal: Refusal) -> u8
+    ensures { result ≡ number refusal }
+{
+    match refusal {
+        Refusal::NoRoom => 7,
+        Refusal::ErrorsFull => 8,
+        Refusal::TooDeep => 9,
+        Refusal::AllSpent => 10,
+        Refusal::ListFull => 11,
     }
+}
+
+fn print_refusal(output: &mut impl Write, refusal: Refusal) -> io::Result<()> {
     let mut out = [0u8; 16];
-    let listed = listing::refusal(&mut out, number as u8);
-    print_listed(&out, listed);
+    let listed = listing::refusal(&mut out, number(refusal));
+    print_listed(output, &out, listed)
 }
 
-fn print_next(s: State) {
-    io::write_all(STDOUT_FILENO, b"next ");
-    io::print_decimal(STDOUT_FILENO, s.at as u64);
-    io::write_all(STDOUT_FILENO, b"\n");
-}
-
-fn long(w: u32) -> u64 {
-    w as u64
-}
-
-// A word of the node buffer after a space.
-fn print_word(nodes: &[u32], at: usize) {
-    io::write_all(STDOUT_FILENO, b" ");
-    if at < nodes.len() {
-        io::print_decimal(STDOUT_FILENO, long(nodes[at]));
-    }
+fn print_next(output: &mut impl Write, state: State) -> io::Result<()> {
+    writeln!(output, "next {}", state.at)
 }
 
 // The words of each record that the listing does not show.
-fn print_words(nodes: &[u32], count: u32) {
-    let mut i: u32 = 0;
-    while i < count {
-        let base = NODE_WORDS * (i as usize);
-        io::write_all(STDOUT_FILENO, b"words");
-        print_word(nodes, base + ONE);
-        print_word(nodes, base + TWO);
-        print_word(nodes, base + FLAGS);
-        io::write_all(STDOUT_FILENO, b"\n");
-        i += 1;
+fn print_words(output: &mut impl Write, nodes: &[u32], count: u32) -> io::Result<()> {
+    let (records, _) = nodes.as_chunks::<NODE_WORDS>();
+    for record in records.iter().take(count as usize) {
+        writeln!(
+            output,
+            "words {} {} {}",
+            record[ONE], record[TWO], record[FLAGS]
+        )?;
     }
+    Ok(())
 }
 
 // What was read: the record that the link leads to with all below it.
-fn print_read(nodes: &[u32], s: State, link: u32) {
+fn print_read(output: &mut impl Write, nodes: &[u32], state: State, link: u32) -> io::Result<()> {
     let counts = Counts {
-        reads: s.reads,
+        reads: state.reads,
         nodes: link,
         errors: 0,
     };
-    let errors = [0u32; 6];
-    let expected = [0u8; 1];
-    print_listing(nodes, &errors, &expected, counts);
-    print_words(nodes, s.nodes);
-    print_next(s);
+    print_listing(output, nodes, &[], &[], counts)?;
+    print_words(output, nodes, state.nodes)?;
+    print_next(output, state)
 }
 
 // Rust's Err, logged as the only error.
-fn print_fault(live: &[u8; 1024], s: State, f: Fault) {
-    let nodes = [0u32; 8];
-    let mut errors = [0u32; 6];
-    let mut expected = [0u8; 1024];
-    let logged = log_error(&mut errors, &mut expected, live, s, f);
-    match logged {
-        Moved::On(t) => {
-            let counts = Counts {
-                reads: t.reads,
-                nodes: 0,
-                errors: t.errors,
-            };
-            print_listing(&nodes, &errors, &expected, counts);
-            print_next(t);
-        }
-        Moved::Failed(_) => {
-            io::write_all(STDOUT_FILENO, b"not logged\n");
-        }
-    }
+fn print_fault(
+    output: &mut impl Write,
+    errors: &[u32],
+    expected: &[u8],
+    state: State,
+) -> io::Result<()> {
+    let counts = Counts {
+        reads: state.reads,
+        nodes: 0,
+        errors: state.errors,
+    };
+    print_listing(output, &[], errors, expected, counts)?;
+    print_next(output, state)
 }
 
-fn print_failure(live: &[u8; 1024], failure: Failure) {
-    if 0 < failure.number {
-        print_refusal(failure.number);
-        return;
+fn print_form(output: &mut impl Write, form: u8) -> io::Result<()> {
+    match form {
+        TYPE => output.write_all(b"type\n"),
+        ATOM => output.write_all(b"atom\n"),
+        _ => output.write_all(b"pattern\n"),
     }
-    print_fault(live, failure.state, failure.fault);
-}
-
-fn print_form(form: u8) {
-    if form == TYPE {
-        io::write_all(STDOUT_FILENO, b"type\n");
-        return;
-    }
-    if form == ATOM {
-        io::write_all(STDOUT_FILENO, b"atom\n");
-        return;
-    }
-    io::write_all(STDOUT_FILENO, b"pattern\n");
 }
 
 // Reads what the form says.
-fn read(
-    text: &[u8],
-    tokens: &[u32],
-    nodes: &mut [u32],
-    live: &mut [u8; 1024],
-    limits: Limits,
-    s: State,
-    depth: u32,
-    form: u8,
-) -> Built
-    ensures { (e x : List ℕ) → as_built result (world nodes.new e x live.new) ≡ by_form form (sheet text.now tokens.now limits) depth s (world nodes.old e x live.old) }
+fn read(p: &mut Parser<'_>, sheet: &Sheet<'_>, depth: u32, form: u8) -> Result<u32, Stop>
+    ensures ended { ended p.new result ≡ run (by_form form (sheet_of sheet.now) depth) p.old }
+    ensures lent { SameErrors p.old p.new }
 {
-    if form == TYPE {
-        return ty(text, tokens, nodes, live, limits, s, depth);
+    match form {
+        TYPE => ty(p, sheet, depth),
+        ATOM => type_atom(p, sheet, depth),
+        _ => pattern(p, sheet, depth),
     }
-    if form == ATOM {
-        return type_atom(text, tokens, nodes, live, limits, s, depth);
-    }
-    pattern(text, tokens, nodes, live, limits, s, depth)
 }
 
-fn answer(text: &[u8], tokens: &[u32], form: u8, depth: u32) {
-    let mut nodes = [0u32; 8192];
-    let mut live = [0u8; 1024];
-    let limits = Limits { allowance: 100000 };
-    let built = read(
-        text, tokens, &mut nodes, &mut live, limits, START, depth, form,
-    );
-    print_form(form);
-    match built {
-        Built::Node(s, link) => print_read(&nodes, s, link),
-        Built::Failed(f) => print_failure(&live, f),
+fn answer(
+    output: &mut impl Write,
+    text: &[u8],
+    tokens: &[u32],
+    form: u8,
+    depth: u32,
+) -> io::Result<()> {
+    let mut nodes = [0u32; LENT_NODES];
+    let mut errors = [0u32; 6];
+    let mut expected = [0u8; LIVE_ROOM];
+    let sheet = Sheet {
+        text,
+        tokens,
+        limits: Limits { allowance: 100000 },
+    };
+    let mut p = Parser {
+        nodes: &mut nodes,
+        errors: &mut errors,
+        expected: &mut expected,
+        live: [0; LIVE_ROOM],
+        state: BEGIN,
+    };
+    print_form(output, form)?;
+    match read(&mut p, &sheet, depth, form) {
+        Ok(link) => {
+            let state = p.state;
+            print_read(output, &nodes, state, link)
+        }
+        Err(Stop::Fault(fault)) => {
+            let logged = p.log_error(fault);
+            let state = p.state;
+            match logged {
+                Ok(()) => print_fault(output, &errors, &expected, state),
+                Err(_) => output.write_all(b"not logged\n"),
+            }
+        }
+        Err(Stop::Refused(refusal)) => print_refusal(output, refusal),
     }
 }
 
 // A case without its head.
-fn one_case(bundle: &[u8], form: u8, depth: u32) {
-    let mut space = [0u8; 4096];
-    let mut words = [0u32; 1536];
-    let decoded = listing::decode(bundle, &mut space, &mut words);
-    let text: &[u8] = &space;
-    let tokens: &[u32] = &words;
-    match decoded {
-        Decoded::Sheet(n, m) => {
-            if text.len() < n {
-                return;
-            }
-            if tokens.len() / 3 < m {
-                return;
-            }
-            answer(&text[..n], &tokens[..3 * m], form, depth);
+fn one_case(output: &mut impl Write, bundle: &[u8], form: u8, depth: u32) -> io::Result<()> {
+    let mut text = [0u8; 4096];
+    let mut tokens = [0u32; 1536];
+    match listing::decode(bundle, &mut text, &mut tokens) {
+        Some(held) => answer(
+            output,
+            &text[..held.text],
+            &tokens[..3 * held.tokens],
+            form,
+            depth,
+        ),
+        None => output.write_all(b"no bundle\n"),
+    }
+}
+
+// Each case up to the end, or to one that is cut short.
+fn all_cases(output: &mut impl Write, input: &[u8]) -> io::Result<()> {
+    let mut left = input;
+    while let Some((head, rest)) = left.split_first_chunk::<HEAD>() {
+        let length = pieces::word(head[2], head[3], head[4], head[5]) as usize;
+        if rest.len() < length {
+            break;
         }
-        Decoded::Refused => {
-            io::write_all(STDOUT_FILENO, b"no bundle\n");
-        }
+        one_case(output, &rest[..length], head[0], u32::from(head[1]))?;
+        left = &rest[length..];
     }
+    Ok(())
 }
 
-fn wide(b: u8) -> u32 {
-    b as u32
-}
-
-// Four bytes of the input from `at` on.
-fn length_at(input: &[u8], at: usize) -> u32 {
-    if input.len() <= at {
-        return 0;
-    }
-    if input.len() - at < 4 {
-        return 0;
-    }
-    wide(input[at])
-        | wide(input[at + 1]) << 8
-        | wide(input[at + 2]) << 16
-        | wide(input[at + 3]) << 24
-}
-
-fn all_cases(input: &[u8]) {
-    let mut at: usize = 0;
-    while at < input.len() {
-        let start = at + HEAD;
-        let end = start + length_at(input, at + 2) as usize;
-        // a case that is cut short does not count
-        if input.len() < end {
-            return;
-        }
-        one_case(&input[start..end], input[at], wide(input[at + 1]));
-        at = end;
-    }
-}
-
-fn main() {
-    let mut input = io::large_buffer();
-    let size = io::read_full(STDIN_FILENO, &mut input);
-    all_cases(&input[..size]);
+fn main(rt: HostRuntime) -> io::Result<()> {
+    let mut input = [0u8; 65536];
+    let n = pieces::fill(&mut rt.reader(), &mut input);
+    all_cases(&mut io::writer(&rt), &input[..n])
 }

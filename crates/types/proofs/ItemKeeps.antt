@@ -1,13 +1,12 @@
 -- What literals, names and lists of items keep, and that each turn of a list takes a token.
+use Rattle.std.specs.Prelude.{Some, None}
 use mathlib.Core.Path.{refl}
 use mathlib.Core.Bool.{Bool, true, false}
 use Prim.Native.Nat.{ℕ, zero, suc}
 use Rattle.kinds.specs.Number as kind
 use Rattle.cursor.specs.declared.Kids.{Kids}
 use Rattle.cursor.specs.declared.Span.{Span}
-use Rattle.cursor.specs.declared.Ranged.{Ranged}
-use Rattle.cursor.specs.declared.Ranged.TheVariants as ranged
-use Rattle.cursor.specs.Sheet.{Sheet, kind_at, range_at}
+use Rattle.cursor.specs.Sheet.{Sheet, kind_at, range_at, Ranged}
 use Rattle.cursor.specs.Rule.{Rule, ◌>>=◌, ◌>>◌, give, if_so, more, stop}
 use Rattle.cursor.specs.Tokens.{eat_eol}
 use Rattle.cursor.specs.Checks.{check, expect}
@@ -54,8 +53,8 @@ module _ {m : Mark} (e : Sheet) where
 
   lit-at-keeps : (k : ℕ) (r : Ranged) → Keeps m (Fresh m) (lit_at e k r)
   unfolding lit_at
-  lit-at-keeps k (ranged.At r) = lit-from-keeps r (literal e.text k r)
-  lit-at-keeps k ranged.Nowhere = unexpected-keeps e
+  lit-at-keeps k (Some r) = lit-from-keeps r (literal e.text k r)
+  lit-at-keeps k None = unexpected-keeps e
 
   pub lit-keeps : Keeps m (Fresh m) (lit e)
   unfolding lit
@@ -63,8 +62,8 @@ module _ {m : Mark} (e : Sheet) where
 
   ident-at-keeps : (r : Ranged) → Keeps m (Fresh m) (ident_at e r)
   unfolding ident_at
-  ident-at-keeps (ranged.At r) = thens (expect-keeps e kind.Ident) (append-keeps _ 0)
-  ident-at-keeps ranged.Nowhere = unexpected-keeps e
+  ident-at-keeps (Some r) = thens (expect-keeps e kind.Ident) (append-keeps _ 0)
+  ident-at-keeps None = unexpected-keeps e
 
   pub ident-keeps : Keeps m (Fresh m) (ident e)
   unfolding ident

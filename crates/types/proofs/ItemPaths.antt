@@ -1,26 +1,33 @@
 -- Each way through the steps that rules share, and through lists of items.
+use Rattle.std.specs.Prelude.{Some, None}
+use Rattle.std.specs.Option.{is_some}
 use mathlib.Core.Path.{◌≡◌, refl, sym}
 use mathlib.Core.Bool.{true, false}
 use Prim.Native.Nat.{ℕ, zero, suc}
 use Rattle.kinds.specs.Number as kind
 use Rattle.cursor.specs.declared.State.{State}
 use Rattle.cursor.specs.declared.Kids.{Kids}
-use Rattle.cursor.specs.Sheet.{Sheet}
+use Rattle.cursor.specs.Sheet.{Sheet, Ranged}
 use Rattle.cursor.specs.Rule.{World, Stop, Out, done, failed, Rule, more, stop, iterate}
 use Rattle.cursor.specs.Tokens.{eat_eol}
 use Rattle.cursor.specs.Checks.{check, eat, expect}
 use Rattle.cursor.specs.Records.{append, add, no_kids}
 use Rattle.types.specs.declared.items.Items.{Items}
-use Rattle.types.specs.Items.{close, pair, add_some, so, after_item, one_item, after_last, last_item, item_turn, items_until_with_last}
+use Rattle.types.specs.Items.{close, pair, add_some, is_ended, so, after_item, one_item, after_last, last_item, item_turn, items_until_with_last}
 use Rattle.cursor.proofs.Loops.{loop-stop, loop-failed}
 
 pub close-is : (k from one two flags first : ℕ) (s : State) (w : World) → close k from one two flags first s w ≡ append (record { kind = k; start = from; end = s.prev; one = one; two = two; flags = flags }) first s w
 unfolding close
 close-is k from one two flags first s w = refl
 
-pub pair-on : (k from a b : ℕ) (s : State) (w : World) {w1 w2 : World} {k1 k2 : Kids} → done s w1 k1 ≡ add no_kids a s w → done s w2 k2 ≡ add k1 b s w1 → pair k from a b s w ≡ close k from 0 0 0 k2.first s w2
+pub pair-on : (k from a b : ℕ) (s : State) (w : World) {s1 s2 : State} {w1 w2 : World} {k1 k2 : Kids} → done s1 w1 k1 ≡ add no_kids a s w → done s2 w2 k2 ≡ add k1 b s1 w1 → pair k from a b s w ≡ close k from 0 0 0 k2.first s2 w2
 unfolding pair
 pair-on k from a b s w p q = rw (← p) (rw (← q))
+
+-- whether a list has a last item, which the code asks by std's is_some
+pub is-ended-is-some : (g : Ranged) → is_some g ≡ is_ended g
+is-ended-is-some (Some r) = refl
+is-ended-is-some None = refl
 
 module _ (kids : Kids) (link : ℕ) (s : State) (w : World) where
   pub some-none : link ≡ 0 → add_some kids link s w ≡ done s w kids
@@ -33,12 +40,12 @@ some-on kids zero s w p = absurd (p refl)
 some-on kids (suc i) s w p = refl
 
 module _ (e : Sheet) (end : ℕ) where
-  module _ (kids : Kids) (r : ℕ) (s : State) (w : World) {longer : Kids} {w2 : World} (q : done s w2 longer ≡ add kids r s w) where
-    pub after-spent : {x : Stop} → eat_eol e s w2 ≡ failed x → after_item e end kids r s w ≡ failed x
+  module _ (kids : Kids) (r : ℕ) (s : State) (w : World) {longer : Kids} {s2 : State} {w2 : World} (q : done s2 w2 longer ≡ add kids r s w) where
+    pub after-spent : {x : Stop} → eat_eol e s2 w2 ≡ failed x → after_item e end kids r s w ≡ failed x
     unfolding after_item
     after-spent a = rw (← q) (rw a)
 
-    module _ {s3 : State} {w3 : World} (a : eat_eol e s w2 ≡ done s3 w3 tt) where
+    module _ {s3 : State} {w3 : World} (a : eat_eol e s2 w2 ≡ done s3 w3 tt) where
       pub after-full : {x : Stop} → eat e end s3 w3 ≡ failed x → after_item e end kids r s w ≡ failed x
       unfolding after_item
       after-full b = rw (← q) (rw a (rw b))

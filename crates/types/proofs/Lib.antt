@@ -5,5 +5,6 @@ pub mod PatternKeeps
 pub mod PatternPaths
 pub mod Placed
 pub mod TypeKeeps
+pub mod TurnExits
 pub mod TypePaths
 pub mod Unique

@@ -1,19 +1,19 @@
 -- Each way through the rules on literals and names.
+use Rattle.std.specs.Prelude.{Some, None, Ok, Err}
 use mathlib.Core.Path.{◌≡◌, refl}
+use mathlib.Core.Bool.{false}
 use mathlib.Core.List.{List}
 use Prim.Native.Nat.{ℕ, ◌/◌, ◌%◌, ◌^◌}
 use lib.Dec.{eqb}
 use borrow.Author.Tests.{eq-eqb, ne_eqb}
 use Rattle.kinds.specs.Number as kind
 use Rattle.kinds.specs.Text.{part}
-use Rattle.ints.specs.declared.Sign.{Sign}
+use Rattle.ints.specs.declared.Int.{Int}
 use Rattle.ints.specs.declared.IntFault.{IntFault}
-use Rattle.ints.specs.declared.IntAnswer.TheVariants as ints
 use Rattle.ints.specs.Answer.{int_of, fault_number}
 use Rattle.cursor.specs.declared.State.{State}
 use Rattle.cursor.specs.declared.Label.{Label}
 use Rattle.cursor.specs.declared.Span.{Span}
-use Rattle.cursor.specs.declared.Ranged.TheVariants as ranged
 use Rattle.cursor.specs.Node as node
 use Rattle.cursor.specs.Sheet.{Sheet, kind_at, range_at}
 use Rattle.cursor.specs.Rule.{World, Stop, fault, done, failed}
@@ -37,24 +37,24 @@ unfolding literal
 literal-is text k r = refl
 
 module _ (text : List ℕ) (r : Span) where
-  pub int-value : {sign : Sign} {m v : ℕ} → ints.Value sign m ≡ int_of (part text r.start r.end) → v ≡ bits_of sign m → int_literal text r ≡ literals.Value (record { kind = node.Int; start = r.start; end = r.end; one = v % 2 ^ 32; two = v / 2 ^ 32; flags = 0 })
+  pub int-value : {i : Int} {v : ℕ} → Ok i ≡ int_of (part text r.start r.end) → v ≡ bits_of i.sign i.magnitude → int_literal text r ≡ literals.Value (record { kind = node.Int; start = r.start; end = r.end; one = v % 2 ^ 32; two = v / 2 ^ 32; flags = 0 })
   unfolding int_literal
   int-value p q = rw (← p, q)
 
-  pub int-fault : {f : IntFault} {n : ℕ} → ints.Fault f ≡ int_of (part text r.start r.end) → n ≡ fault_number f → int_literal text r ≡ literals.Faulty n
+  pub int-fault : {f : IntFault} {n : ℕ} → Err f ≡ int_of (part text r.start r.end) → n ≡ fault_number f → int_literal text r ≡ literals.Faulty n
   unfolding int_literal
   int-fault p q = rw (← p, q)
 
 module _ (e : Sheet) (s : State) (w : World) where
-  pub lit-out : range_at e.tokens s.at ≡ ranged.Nowhere → lit e s w ≡ failed (fault s w (unexpected_at e s))
+  pub lit-out : range_at e.tokens s.at ≡ None → lit e s w ≡ failed (fault s w (unexpected_at e s))
   unfolding lit lit_at unexpected
   lit-out p = rw (p, lit, lit_at)
 
-  pub ident-out : range_at e.tokens s.at ≡ ranged.Nowhere → ident e s w ≡ failed (fault s w (unexpected_at e s))
+  pub ident-out : range_at e.tokens s.at ≡ None → ident e s w ≡ failed (fault s w (unexpected_at e s))
   unfolding ident ident_at unexpected
   ident-out p = rw (p, ident, ident_at)
 
-  module _ {r : Span} (p : range_at e.tokens s.at ≡ ranged.At r) where
+  module _ {r : Span} (p : range_at e.tokens s.at ≡ Some r) where
     pub ident-failed : {x : Stop} → expect e kind.Ident s w ≡ failed x → ident e s w ≡ failed x
     unfolding ident ident_at
     ident-failed q = rw (p, ident, ident_at) (rw q)
@@ -68,7 +68,7 @@ module _ (e : Sheet) (s : State) (w : World) where
       unfolding lit lit_at lit_from unexpected
       lit-none q = rw (p, ← h, lit, lit_at) (rw (← q, lit_from))
 
-      pub lit-faulty : {n : ℕ} → literals.Faulty n ≡ literal e.text k r → lit e s w ≡ failed (fault s w (record { class = 1; found = n; span = r; listed = 0 }))
+      pub lit-faulty : {n : ℕ} → literals.Faulty n ≡ literal e.text k r → lit e s w ≡ failed (fault s w (record { class = 1; found = n; span = r; listed = false }))
       unfolding lit lit_at lit_from
       lit-faulty q = rw (p, ← h, lit, lit_at) (rw (← q, lit_from))
 

@@ -1,5 +1,6 @@
 -- Each way through the rules on patterns.
-use mathlib.Core.Path.{◌≡◌, refl, sym}
+use Rattle.std.specs.Prelude.{Some}
+use mathlib.Core.Path.{◌≡◌, refl}
 use mathlib.Core.Bool.{Bool, false}
 use Prim.Native.Nat.{ℕ, zero, suc, ◌-◌}
 use native.Mathlib.Numerals.{sub-one}
@@ -7,45 +8,37 @@ use Rattle.kinds.specs.Number as kind
 use Rattle.cursor.specs.declared.State.{State}
 use Rattle.cursor.specs.declared.Kids.{Kids}
 use Rattle.cursor.specs.declared.Span.{Span}
-use Rattle.cursor.specs.declared.Ranged.{Ranged}
-use Rattle.cursor.specs.declared.Ranged.TheVariants as ranged
-use Rattle.cursor.specs.Node as node
 use Rattle.cursor.specs.Sheet.{Sheet, range_at}
-use Rattle.cursor.specs.Rule.{World, Stop, done, failed, refusal, refused, Rule, iterate}
+use Rattle.cursor.specs.Node as node
+use Rattle.cursor.specs.Rule.{World, Stop, done, failed, refused, Rule, iterate}
 use Rattle.cursor.specs.Tokens.{start_of, bump, eat_eol}
 use Rattle.cursor.specs.Checks.{expect, pick}
 use Rattle.cursor.specs.Records.{no_kids, flagged}
 use Rattle.types.specs.declared.items.Items.{Items}
 use Rattle.types.specs.Lits.{lit, ident}
 use Rattle.types.specs.Items.{close, pair, is_ended, so, after_last, last_item, item_turn, items_until_with_last}
+use Rattle.types.specs.declared.patterns.PatternRule.{PatternRule}
+use Rattle.types.specs.declared.patterns.PatternRule.TheVariants as rules
+use Rattle.types.specs.ItemRules.{pattern_rule}
 use Rattle.types.specs.Patterns.{span_of, pattern_end, pattern_last, table_pattern_pair, pattern_item, pattern_items, pattern_ended, pattern_row, patterns}
 use Rattle.types.proofs.Placed.{pattern_chain, pattern_by, pattern-placed}
 use Rattle.types.proofs.TypePaths.{starts}
 
-pub end-pairs : {k : ℕ} → k ≡ 0 → pattern_end k ≡ kind.CloseBrace
+-- how a list of each item rule ends
+pub end-pairs : {r : PatternRule} → r ≡ rules.Pairs → kind.CloseBrace ≡ pattern_end (pattern_rule r)
 unfolding pattern_end
 end-pairs p = rw p
 
-pub end-patterns : (k : ℕ) → (k ≡ 0 → ⊥) → pattern_end k ≡ kind.CloseBracket
+pub end-patterns : {r : PatternRule} → r ≡ rules.Patterns → kind.CloseBracket ≡ pattern_end (pattern_rule r)
 unfolding pattern_end
-end-patterns zero p = absurd (p refl)
-end-patterns (suc zero) p = refl
-end-patterns (suc (suc zero)) p = refl
-end-patterns (suc (suc (suc k))) p = refl
-
--- a range that is told apart, or its empty stand-in
-pub span-at : {g : Ranged} {r : Span} → g ≡ ranged.At r → r ≡ span_of g
-span-at p = sym (rw p)
-
-pub span-nowhere : {g : Ranged} → g ≡ ranged.Nowhere → record { start = 0; end = 0 } ≡ span_of g
-span-nowhere p = sym (rw p)
+end-patterns p = rw p
 
 module _ (e : Sheet) (k : ℕ) (kids : Kids) (s : State) (w : World) where
   pub ended-spent : {x : Stop} → bump e s w ≡ failed x → pattern_ended e k kids s w ≡ failed x
   unfolding pattern_ended last_item pattern_last
   ended-spent p = rw p
 
-  pub ended-on : {r : Span} {end : ℕ} {s1 : State} {w1 : World} → bump e s w ≡ done s1 w1 tt → r ≡ span_of (range_at e.tokens s.at) → end ≡ pattern_end k → pattern_ended e k kids s w ≡ after_last e end (record { kids = kids; ended = ranged.At r }) s1 w1
+  pub ended-on : {r : Span} {end : ℕ} {s1 : State} {w1 : World} → bump e s w ≡ done s1 w1 tt → r ≡ span_of (range_at e.tokens s.at) → end ≡ pattern_end k → pattern_ended e k kids s w ≡ after_last e end (record { kids = kids; ended = Some r }) s1 w1
   unfolding pattern_ended last_item pattern_last
   ended-on p q r = rw p (rw (q, r))
 
@@ -74,16 +67,14 @@ module _ (e : Sheet) (inner : Rule ℕ) (s : State) (w : World) {from : ℕ} (f 
       pair-on r = rw (starts e s w f) (rw p (rw q (rw r)))
 
 module _ (e : Sheet) (inner : Rule ℕ) where
-  pub item-pair : (k : ℕ) (s : State) (w : World) → k ≡ 0 → pattern_item e inner k s w ≡ table_pattern_pair e inner s w
-  unfolding pattern_item
-  item-pair k s w p = rw p
+  module _ {r : PatternRule} (s : State) (w : World) where
+    pub item-pair : r ≡ rules.Pairs → pattern_item e inner (pattern_rule r) s w ≡ table_pattern_pair e inner s w
+    unfolding pattern_item
+    item-pair p = rw p
 
-  pub item-pattern : (k : ℕ) (s : State) (w : World) → (k ≡ 0 → ⊥) → pattern_item e inner k s w ≡ inner s w
-  unfolding pattern_item
-  item-pattern zero s w p = absurd (p refl)
-  item-pattern (suc zero) s w p = refl
-  item-pattern (suc (suc zero)) s w p = refl
-  item-pattern (suc (suc (suc k))) s w p = refl
+    pub item-pattern : r ≡ rules.Patterns → pattern_item e inner (pattern_rule r) s w ≡ inner s w
+    unfolding pattern_item
+    item-pattern p = rw p
 
   -- a list begins
   module _ (k : ℕ) (kids : Kids) (s : State) (w : World) where
@@ -130,7 +121,7 @@ module _ (e : Sheet) (inner : Rule ℕ) where
   by-lit from (suc (suc (suc k))) s w p q r = refl
 
 module _ (e : Sheet) (s : State) (w : World) where
-  pub patterns-none : (d : ℕ) → d ≡ 0 → patterns e d s w ≡ failed (refused (refusal 9))
+  pub patterns-none : (d : ℕ) → d ≡ 0 → patterns e d s w ≡ failed (refused 9)
   unfolding patterns
   patterns-none d p = rw (p, patterns)
 

@@ -3,49 +3,59 @@ use mathlib.Core.Path.{◌≡◌, refl}
 use mathlib.Core.Bool.{Bool, true, false}
 use Prim.Native.Nat.{ℕ, zero, suc, ◌-◌}
 use native.Mathlib.Numerals.{sub-one}
-use lib.Dec.{ltb}
-use borrow.Author.Tests.{eq-eqb, ne_eqb}
+use lib.Dec.{eqb, ltb}
 use Rattle.kinds.specs.Number as kind
 use Rattle.cursor.specs.declared.State.{State}
 use Rattle.cursor.specs.declared.Kids.{Kids}
 use Rattle.cursor.specs.Node as node
 use Rattle.cursor.specs.Sheet.{Sheet, range_at}
-use Rattle.cursor.specs.Rule.{World, Stop, Out, done, failed, refusal, refused, Rule, more, stop, iterate}
+use Rattle.cursor.specs.Rule.{World, Stop, Out, done, failed, refused, Rule, more, stop, iterate}
 use Rattle.cursor.specs.Tokens.{start_of, bump, eat_eol}
 use Rattle.cursor.specs.Checks.{check, eat, expect, pick}
 use Rattle.cursor.specs.Records.{add, no_kids, flagged}
 use Rattle.types.specs.declared.items.Items.{Items}
 use Rattle.types.specs.Lits.{lit, ident}
 use Rattle.types.specs.Items.{start, close, pair, add_some, is_ended, so, after_last, last_item, item_turn, items_until_with_last}
+use Rattle.types.specs.declared.types.TypeRule.{TypeRule}
+use Rattle.types.specs.declared.types.TypeRule.TheVariants as rules
+use Rattle.types.specs.ItemRules.{TableTyPairs, type_rule}
 use Rattle.types.specs.Types.{ended, type_last_kind, type_end, union_turn, union, type, returns, named, typed_ident, table_ty_pair, table_ty_other, type_item, type_last_item, type_last, last_of, type_items, type_paren, type_table, type_function, atoms, params, closure_params}
 use Rattle.types.proofs.Placed.{type_chain, type_by, type-atom-placed}
 
 -- how lists of each item rule end, and how their last item starts
-pub last-kind-pairs : {k : ℕ} → k ≡ 2 → type_last_kind k ≡ kind.OpenBracket
+module _ {r : TypeRule} where
+  pub last-kind-pairs : r ≡ rules.TableTyPairs → kind.OpenBracket ≡ type_last_kind (type_rule r)
+  unfolding type_last_kind
+  last-kind-pairs p = rw p
+
+  pub end-closure : r ≡ rules.AtomTypedIdents → kind.VBar ≡ type_end (type_rule r)
+  unfolding type_end
+  end-closure p = rw p
+
+  pub end-pairs : r ≡ rules.TableTyPairs → kind.CloseBrace ≡ type_end (type_rule r)
+  unfolding type_end
+  end-pairs p = rw p
+
+pub last-kind-others : (r : TypeRule) → (r ≡ rules.TableTyPairs → ⊥) → kind.Ellipsis ≡ type_last_kind (type_rule r)
 unfolding type_last_kind
-last-kind-pairs p = rw p
+last-kind-others rules.TypedIdents p = refl
+last-kind-others rules.AtomTypedIdents p = refl
+last-kind-others rules.TableTyPairs p = absurd (p refl)
+last-kind-others rules.Types p = refl
 
-pub last-kind-others : (k : ℕ) → (k ≡ 2 → ⊥) → type_last_kind k ≡ kind.Ellipsis
-unfolding type_last_kind
-last-kind-others zero p = refl
-last-kind-others (suc zero) p = refl
-last-kind-others (suc (suc zero)) p = absurd (p refl)
-last-kind-others (suc (suc (suc k))) p = refl
-
-pub end-closure : {k : ℕ} → k ≡ 1 → type_end k ≡ kind.VBar
+pub end-others : (r : TypeRule) → (r ≡ rules.AtomTypedIdents → ⊥) → (r ≡ rules.TableTyPairs → ⊥) → kind.CloseParen ≡ type_end (type_rule r)
 unfolding type_end
-end-closure p = rw p
+end-others rules.TypedIdents p q = refl
+end-others rules.AtomTypedIdents p q = absurd (p refl)
+end-others rules.TableTyPairs p q = absurd (q refl)
+end-others rules.Types p q = refl
 
-pub end-pairs : {k : ℕ} → k ≡ 2 → type_end k ≡ kind.CloseBrace
-unfolding type_end
-end-pairs p = rw p
-
-pub end-others : (k : ℕ) → (k ≡ 1 → ⊥) → (k ≡ 2 → ⊥) → type_end k ≡ kind.CloseParen
-unfolding type_end
-end-others zero p q = refl
-end-others (suc zero) p q = absurd (p refl)
-end-others (suc (suc zero)) p q = absurd (q refl)
-end-others (suc (suc (suc k))) p q = refl
+-- a rule that is not that of table types has another number
+others : (r : TypeRule) → (r ≡ rules.TableTyPairs → ⊥) → eqb (type_rule r) TableTyPairs ≡ false
+others rules.TypedIdents p = refl
+others rules.AtomTypedIdents p = refl
+others rules.TableTyPairs p = absurd (p refl)
+others rules.Types p = refl
 
 -- where a value starts
 pub starts : (e : Sheet) (s : State) (w : World) {from : ℕ} → from ≡ start_of (range_at e.tokens s.at) → start e s w ≡ done s w from
@@ -68,16 +78,16 @@ module _ (e : Sheet) (atom : Rule ℕ) (s : State) (w : World) where
       unfolding union_turn
       part-failed q = rw p (rw q)
 
-      pub part-more : {r : ℕ} {longer : Kids} {s2 : State} {w2 w3 : World} → atom s1 w1 ≡ done s2 w2 r → done s2 w3 longer ≡ add kids r s2 w2 → union_turn e atom kids s w ≡ done s2 w3 (more longer)
+      pub part-more : {r : ℕ} {longer : Kids} {s2 s3 : State} {w2 w3 : World} → atom s1 w1 ≡ done s2 w2 r → done s3 w3 longer ≡ add kids r s2 w2 → union_turn e atom kids s w ≡ done s3 w3 (more longer)
       unfolding union_turn
       part-more q r = rw p (rw q (rw (← r)))
 
-  module _ (from first : ℕ) {kids : Kids} {w1 : World} (p : done s w1 kids ≡ add no_kids first s w) where
-    pub union-failed : {x : Stop} → iterate e (union_turn e atom) kids s w1 ≡ failed x → union e atom from first s w ≡ failed x
+  module _ (from first : ℕ) {kids : Kids} {s1 : State} {w1 : World} (p : done s1 w1 kids ≡ add no_kids first s w) where
+    pub union-failed : {x : Stop} → iterate e (union_turn e atom) kids s1 w1 ≡ failed x → union e atom from first s w ≡ failed x
     unfolding union
     union-failed q = rw (← p) (rw q)
 
-    pub union-on : {flags : ℕ} {all : Kids} {s2 : State} {w2 : World} → iterate e (union_turn e atom) kids s w1 ≡ done s2 w2 all → flags ≡ flagged all.count 0 false false → union e atom from first s w ≡ close node.Union from 0 0 flags all.first s2 w2
+    pub union-on : {flags : ℕ} {all : Kids} {s2 : State} {w2 : World} → iterate e (union_turn e atom) kids s1 w1 ≡ done s2 w2 all → flags ≡ flagged all.count 0 false false → union e atom from first s w ≡ close node.Union from 0 0 flags all.first s2 w2
     unfolding union
     union-on q r = rw (← p) (rw (q, r))
 
@@ -194,45 +204,43 @@ module _ (e : Sheet) (atom : Rule ℕ) (s : State) (w : World) where
 
 -- items by their rule
 module _ (e : Sheet) (atom : Rule ℕ) where
-  pub item-typed : (k : ℕ) (s : State) (w : World) → k ≡ 0 → type_item e atom k s w ≡ typed_ident e (named e atom false) s w
-  unfolding type_item
-  item-typed k s w p = rw p
+  module _ {r : TypeRule} (s : State) (w : World) where
+    pub item-typed : r ≡ rules.TypedIdents → type_item e atom (type_rule r) s w ≡ typed_ident e (named e atom false) s w
+    unfolding type_item
+    item-typed p = rw p
 
-  pub item-atom : (k : ℕ) (s : State) (w : World) → k ≡ 1 → type_item e atom k s w ≡ typed_ident e (named e atom true) s w
-  unfolding type_item
-  item-atom k s w p = rw p
+    pub item-atom : r ≡ rules.AtomTypedIdents → type_item e atom (type_rule r) s w ≡ typed_ident e (named e atom true) s w
+    unfolding type_item
+    item-atom p = rw p
 
-  pub item-pair : (k : ℕ) (s : State) (w : World) → k ≡ 2 → type_item e atom k s w ≡ table_ty_pair e atom s w
-  unfolding type_item
-  item-pair k s w p = rw p
+    pub item-pair : r ≡ rules.TableTyPairs → type_item e atom (type_rule r) s w ≡ table_ty_pair e atom s w
+    unfolding type_item
+    item-pair p = rw p
 
-  pub item-type : (k : ℕ) (s : State) (w : World) → (k ≡ 0 → ⊥) → (k ≡ 1 → ⊥) → (k ≡ 2 → ⊥) → type_item e atom k s w ≡ type e atom s w
-  unfolding type_item
-  item-type zero s w p q r = absurd (p refl)
-  item-type (suc zero) s w p q r = absurd (q refl)
-  item-type (suc (suc zero)) s w p q r = absurd (r refl)
-  item-type (suc (suc (suc k))) s w p q r = refl
+    pub item-type : r ≡ rules.Types → type_item e atom (type_rule r) s w ≡ type e atom s w
+    unfolding type_item
+    item-type p = rw p
+
+    pub last-other : r ≡ rules.TableTyPairs → type_last_item e atom (type_rule r) s w ≡ table_ty_other e atom s w
+    unfolding type_last_item
+    last-other p = rw p
+
+    module _ (n : r ≡ rules.TableTyPairs → ⊥) where
+      pub last-shut : {x : Stop} → expect e kind.Ellipsis s w ≡ failed x → type_last_item e atom (type_rule r) s w ≡ failed x
+      unfolding type_last_item
+      last-shut p = rw (others r n, type_last_item) (rw p)
+
+      pub last-dots : {s1 : State} {w1 : World} → expect e kind.Ellipsis s w ≡ done s1 w1 tt → type_last_item e atom (type_rule r) s w ≡ type_item e atom (type_rule r) s1 w1
+      unfolding type_last_item
+      last-dots p = rw (others r n, type_last_item) (rw p)
 
   module _ (k : ℕ) (s : State) (w : World) where
-    pub last-other : k ≡ 2 → type_last_item e atom k s w ≡ table_ty_other e atom s w
-    unfolding type_last_item
-    last-other p = rw (eq-eqb _ _ p, type_last_item)
-
-    module _ (n : k ≡ 2 → ⊥) where
-      pub last-shut : {x : Stop} → expect e kind.Ellipsis s w ≡ failed x → type_last_item e atom k s w ≡ failed x
-      unfolding type_last_item
-      last-shut p = rw (ne_eqb _ _ n, type_last_item) (rw p)
-
-      pub last-dots : {s1 : State} {w1 : World} → expect e kind.Ellipsis s w ≡ done s1 w1 tt → type_last_item e atom k s w ≡ type_item e atom k s1 w1
-      unfolding type_last_item
-      last-dots p = rw (ne_eqb _ _ n, type_last_item) (rw p)
-
     module _ (kids : Kids) where
       pub last-failed : {x : Stop} → type_last_item e atom k s w ≡ failed x → last_of e atom k kids s w ≡ failed x
       unfolding last_of last_item type_last
       last-failed p = rw p
 
-      pub last_on : {r end : ℕ} {longer : Kids} {s1 : State} {w1 w2 : World} → type_last_item e atom k s w ≡ done s1 w1 r → done s1 w2 longer ≡ add kids r s1 w1 → end ≡ type_end k → last_of e atom k kids s w ≡ after_last e end (ended kids longer) s1 w2
+      pub last_on : {r end : ℕ} {longer : Kids} {s1 s2 : State} {w1 w2 : World} → type_last_item e atom k s w ≡ done s1 w1 r → done s2 w2 longer ≡ add kids r s1 w1 → end ≡ type_end k → last_of e atom k kids s w ≡ after_last e end (ended kids longer) s2 w2
       unfolding last_of last_item type_last
       last_on p q r = rw p (rw (← q) (rw r))
 
@@ -261,7 +269,7 @@ module _ (e : Sheet) (atom : Rule ℕ) where
         unfolding type_paren
         paren-open c = rw p (rw q (rw c))
 
-        pub paren-on : {kids : Kids} {s3 : State} {w3 w4 : World} → expect e kind.CloseParen s2 w2 ≡ done s3 w3 tt → done s3 w4 kids ≡ add no_kids r s3 w3 → type_paren e atom from s w ≡ close node.TyParen from 0 0 0 kids.first s3 w4
+        pub paren-on : {kids : Kids} {s3 s4 : State} {w3 w4 : World} → expect e kind.CloseParen s2 w2 ≡ done s3 w3 tt → done s4 w4 kids ≡ add no_kids r s3 w3 → type_paren e atom from s w ≡ close node.TyParen from 0 0 0 kids.first s4 w4
         unfolding type_paren
         paren-on c d = rw p (rw q (rw c (rw (← d))))
 
@@ -282,13 +290,13 @@ module _ (e : Sheet) (atom : Rule ℕ) where
         unfolding type_function
         function-lost r = rw p (rw q (rw r))
 
-        pub function-on : {b : Bool} {flags r : ℕ} {kids : Kids} {s3 : State} {w3 w4 : World} → returns e atom s2 w2 ≡ done s3 w3 r → done s3 w4 kids ≡ add_some i.kids r s3 w3 → b ≡ is_ended i.ended → flags ≡ flagged i.kids.count 0 b (ltb 0 r) → type_function e atom from s w ≡ close node.TyFunction from 0 0 flags kids.first s3 w4
+        pub function-on : {b : Bool} {flags r : ℕ} {kids : Kids} {s3 s4 : State} {w3 w4 : World} → returns e atom s2 w2 ≡ done s3 w3 r → done s4 w4 kids ≡ add_some i.kids r s3 w3 → b ≡ is_ended i.ended → flags ≡ flagged i.kids.count 0 b (ltb 0 r) → type_function e atom from s w ≡ close node.TyFunction from 0 0 flags kids.first s4 w4
         unfolding type_function
         function-on r c b h = rw p (rw q (rw r (rw (← c) (rw (h, b)))))
 
 -- type atoms
 module _ (e : Sheet) (d : ℕ) (s : State) (w : World) where
-  pub atoms-none : d ≡ 0 → atoms e d s w ≡ failed (refused (refusal 9))
+  pub atoms-none : d ≡ 0 → atoms e d s w ≡ failed (refused 9)
   unfolding atoms
   atoms-none p = rw (p, atoms)
 

@@ -1,11 +1,9 @@
 -- Lists of items: parse_items_until_with_last. The item rule, the kind that starts the last item, the rule for it and the kind that ends
 -- the list are handed over.
-use Rattle.std.specs.Prelude.{ℕ, zero, suc, Bool, true, false}
+use Rattle.std.specs.Prelude.{ℕ, zero, suc, Bool, true, false, Some, None}
 use Rattle.kinds.specs.Number as kind
 use Rattle.cursor.specs.declared.Kids.{Kids}
-use Rattle.cursor.specs.declared.Ranged.{Ranged}
-use Rattle.cursor.specs.declared.Ranged.TheVariants as ranged
-use Rattle.cursor.specs.Sheet.{Sheet, range_at}
+use Rattle.cursor.specs.Sheet.{Sheet, range_at, Ranged}
 use Rattle.cursor.specs.Rule.{done, Rule, ◌>>=◌, ◌>>◌, give, if_so, Next, more, stop, Turn, iterate}
 use Rattle.cursor.specs.Tokens.{start_of, eat_eol}
 use Rattle.cursor.specs.Checks.{check, eat, expect}
@@ -38,12 +36,12 @@ add_some kids (suc i) = add kids (suc i)
 
 -- is there a last item?
 abbrev pub is_ended : Ranged → Bool
-is_ended (ranged.At r) = true
-is_ended ranged.Nowhere = false
+is_ended (Some r) = true
+is_ended None = false
 
 -- a row of items so far, with no last item
 abbrev pub so : Kids → Items
-so kids = record { kids = kids; ended = ranged.Nowhere }
+so kids = record { kids = kids; ended = None }
 
 -- after an item: it joins the row; then Eols, and the end or a comma and Eols
 unfoldable pub after_item : Sheet → ℕ → Kids → ℕ → Rule (Next Items)

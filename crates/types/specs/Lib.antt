@@ -1,6 +1,5 @@
 pub mod Lits
 pub mod ItemRules
 pub mod Items
-pub mod Answers
 pub mod Types
 pub mod Patterns

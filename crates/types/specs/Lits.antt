@@ -1,19 +1,17 @@
 -- Literals and names: parse_lit and parse_ident.
-use Rattle.std.specs.Prelude.{ℕ, ◌-◌, ◌/◌, ◌%◌, ◌^◌, List, Bool, true, false, eqb}
+use Rattle.std.specs.Prelude.{ℕ, ◌-◌, ◌/◌, ◌%◌, ◌^◌, List, Bool, true, false, eqb, Some, None, Result, Ok, Err}
 use Rattle.kinds.specs.Number as kind
 use Rattle.kinds.specs.Text.{part}
 use Rattle.ints.specs.declared.Sign.{Sign}
 use Rattle.ints.specs.declared.Sign.TheVariants as signs
-use Rattle.ints.specs.declared.IntAnswer.{IntAnswer}
-use Rattle.ints.specs.declared.IntAnswer.TheVariants as ints
+use Rattle.ints.specs.declared.Int.{Int}
+use Rattle.ints.specs.declared.IntFault.{IntFault}
 use Rattle.ints.specs.Answer.{int_of, fault_number}
 use Rattle.cursor.specs.declared.Label.{Label}
 use Rattle.cursor.specs.declared.Span.{Span}
-use Rattle.cursor.specs.declared.Ranged.{Ranged}
-use Rattle.cursor.specs.declared.Ranged.TheVariants as ranged
+use Rattle.cursor.specs.Sheet.{Sheet, kind_at, range_at, Ranged}
 use Rattle.cursor.specs.Node as node
 use Rattle.cursor.specs.Layout.{FAULTY_INT}
-use Rattle.cursor.specs.Sheet.{Sheet, kind_at, range_at}
 use Rattle.cursor.specs.Rule.{fault, failed, Rule, ◌>>◌}
 use Rattle.cursor.specs.Tokens.{bump}
 use Rattle.cursor.specs.Checks.{unexpected, expect}
@@ -32,9 +30,9 @@ abbrev pub leaf_label : ℕ → Span → ℕ → Label
 leaf_label k r flags = record { kind = k; start = r.start; end = r.end; one = 0; two = 0; flags = flags }
 
 -- an integer's value goes into its record as 64 bits, the low 32 first
-abbrev pub int_by : IntAnswer → Span → Literal
-int_by (ints.Value sign m) r = literals.Value (record { kind = node.Int; start = r.start; end = r.end; one = bits_of sign m % 2 ^ 32; two = bits_of sign m / 2 ^ 32; flags = 0 })
-int_by (ints.Fault f) r = literals.Faulty (fault_number f)
+abbrev pub int_by : Result Int IntFault → Span → Literal
+int_by (Ok i) r = literals.Value (record { kind = node.Int; start = r.start; end = r.end; one = bits_of i.sign i.magnitude % 2 ^ 32; two = bits_of i.sign i.magnitude / 2 ^ 32; flags = 0 })
+int_by (Err f) r = literals.Faulty (fault_number f)
 
 unfoldable pub int_literal : List ℕ → Span → Literal
 int_literal text r = int_by (int_of (part text r.start r.end)) r
@@ -63,22 +61,22 @@ unfoldable pub lit_from : Sheet → Span → Literal → Rule ℕ
 lit_from e r (literals.Value l) = do
   bump e
   append l no_link
-lit_from e r (literals.Faulty n) = λ s w. failed (fault s w (record { class = FAULTY_INT; found = n; span = r; listed = 0 }))
+lit_from e r (literals.Faulty n) = λ s w. failed (fault s w (record { class = FAULTY_INT; found = n; span = r; listed = false }))
 lit_from e r literals.Nothing = unexpected e
 
 unfoldable pub lit_at : Sheet → ℕ → Ranged → Rule ℕ
-lit_at e k (ranged.At r) = lit_from e r (literal e.text k r)
-lit_at e k ranged.Nowhere = unexpected e
+lit_at e k (Some r) = lit_from e r (literal e.text k r)
+lit_at e k None = unexpected e
 
 unfoldable pub lit : Sheet → Rule ℕ
 lit e s w = lit_at e (kind_at e.tokens s.at) (range_at e.tokens s.at) s w
 
 -- a name: the record of its range
 unfoldable pub ident_at : Sheet → Ranged → Rule ℕ
-ident_at e (ranged.At r) = do
+ident_at e (Some r) = do
   expect e kind.Ident
   append (leaf_label node.Ident r 0) no_link
-ident_at e ranged.Nowhere = unexpected e
+ident_at e None = unexpected e
 
 unfoldable pub ident : Sheet → Rule ℕ
 ident e s w = ident_at e (range_at e.tokens s.at) s w

@@ -1,12 +1,10 @@
 -- Patterns: parse_pattern.
-use Rattle.std.specs.Prelude.{ℕ, zero, suc, List, [], ◌∷◌, false}
+use Rattle.std.specs.Prelude.{unwrap_or, ℕ, zero, suc, List, [], ◌∷◌, false, Some}
 use Rattle.kinds.specs.Number as kind
 use Rattle.cursor.specs.declared.Kids.{Kids}
 use Rattle.cursor.specs.declared.Span.{Span}
-use Rattle.cursor.specs.declared.Ranged.{Ranged}
-use Rattle.cursor.specs.declared.Ranged.TheVariants as ranged
+use Rattle.cursor.specs.Sheet.{Sheet, range_at, Ranged}
 use Rattle.cursor.specs.Node as node
-use Rattle.cursor.specs.Sheet.{Sheet, range_at}
 use Rattle.cursor.specs.Rule.{Rule, ◌>>=◌, ◌>>◌, give, refuse}
 use Rattle.cursor.specs.Tokens.{bump}
 use Rattle.cursor.specs.Checks.{expect, Case, ◌⇒◌, choose}
@@ -18,8 +16,7 @@ use Rattle.types.specs.Items.{start, close, pair, is_ended, so, last_item, items
 
 -- a range, or the empty one at 0 where there is none
 abbrev pub span_of : Ranged → Span
-span_of (ranged.At r) = r
-span_of ranged.Nowhere = record { start = 0; end = 0 }
+span_of r = unwrap_or r (record { start = 0; end = 0 })
 
 -- what goes with Pairs, and what with Patterns
 abbrev pub pairs_or : {A : Type 0} → ℕ → A → A → A
@@ -35,7 +32,7 @@ module _ (e : Sheet) where
   unfoldable pub pattern_last : Items → Rule Items
   pattern_last i s w = (do
     bump e
-    give (record { kids = i.kids; ended = ranged.At (span_of (range_at e.tokens s.at)) })) s w
+    give (record { kids = i.kids; ended = Some (span_of (range_at e.tokens s.at)) })) s w
 
   -- a pair of a table pattern
   unfoldable pub table_pattern_pair : Rule ℕ → Rule ℕ

@@ -1,8 +1,7 @@
 -- Types, typed names, parameters and return types.
-use Rattle.std.specs.Prelude.{ℕ, zero, suc, List, [], ◌∷◌, Bool, true, false, ltb, eqb}
+use Rattle.std.specs.Prelude.{ℕ, zero, suc, List, [], ◌∷◌, Bool, true, false, ltb, eqb, Some}
 use Rattle.kinds.specs.Number as kind
 use Rattle.cursor.specs.declared.Kids.{Kids}
-use Rattle.cursor.specs.declared.Ranged.TheVariants as ranged
 use Rattle.cursor.specs.Node as node
 use Rattle.cursor.specs.Sheet.{Sheet}
 use Rattle.cursor.specs.Rule.{Out, Rule, ◌>>=◌, ◌>>◌, give, refuse, if_so, more, stop, Turn, iterate}
@@ -17,7 +16,7 @@ use Rattle.types.specs.Items.{start, close, over, pair, add_some, is_ended, so, 
 
 -- a last item that is one more child: it is not counted
 abbrev pub ended : Kids → Kids → Items
-ended before after = record { kids = record { first = after.first; last = after.last; count = before.count }; ended = ranged.At (record { start = 0; end = 0 }) }
+ended before after = record { kids = record { first = after.first; last = after.last; count = before.count }; ended = Some (record { start = 0; end = 0 }) }
 
 -- how the last item of a list of each item rule starts, and how the list ends
 unfoldable pub type_last_kind : ℕ → ℕ

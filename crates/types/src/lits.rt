@@ -1,17 +1,13 @@
 // Literals and names.
-ghost use Rattle.std.specs.Prelude.{◌≡◌, List, ℕ};
-ghost use Rattle.cursor.specs.Sheet.{sheet};
-ghost use Rattle.cursor.specs.Rule.{world};
-ghost use Rattle.cursor.specs.Answers.{as_built};
+ghost use Rattle.std.specs.Prelude.{◌≡◌};
+ghost use Rattle.cursor.specs.Answers.{sheet_of, run, ended, SameErrors, SameLists};
 ghost use Rattle.types.specs.Lits.{bits_of, leaf_label, int_literal, literal, lit, ident};
 
-use cursor::checks::{erred, expect, unexpected};
-use cursor::records::append;
-use cursor::tokens::{bump, current_kind, current_range};
-use cursor::{Built, Fault, Label, Limits, Moved, Ranged, Span, State, nodes};
-use ints::{IntAnswer, Sign};
+use cursor::{Fault, Label, Parser, Sheet, Span, Stop, nodes};
+use ints::{Int, Sign};
 
-// What a token is as a literal: the label of its record, a faulty integer, or no literal at all.
+// What a token is as a literal: the label of its record, a faulty integer, or no literal at all. Three ends, each met otherwise: an Option of a Result is no
+// plainer.
 #[derive(Clone, Copy)]
 pub enum Literal {
     Value(Label),
@@ -19,20 +15,13 @@ pub enum Literal {
     Nothing,
 }
 
-// An i64 as 64 bits, two's complement, from its sign and magnitude.
-fn bits(sign: Sign, magnitude: u64) -> u64
-    ensures { result ≡ bits_of sign magnitude }
+// An i64 as 64 bits, two's complement.
+fn bits(int: Int) -> u64
+    ensures { result ≡ bits_of int.sign int.magnitude }
 {
-    match sign {
-        Sign::Absent => magnitude,
-        Sign::Plus => magnitude,
-        Sign::Minus => {
-            if magnitude == 0 {
-                0
-            } else {
-                u64::MAX - magnitude + 1
-            }
-        }
+    match int.sign {
+        Sign::Absent | Sign::Plus => int.magnitude,
+        Sign::Minus => int.magnitude.wrapping_neg(),
     }
 }
 
@@ -53,10 +42,9 @@ fn leaf(kind: u32, span: Span, flags: u32) -> Literal
 fn int(text: &[u8], span: Span) -> Literal
     ensures { result ≡ int_literal text.now span }
 {
-    let read = ints::int_value(text, span.start, span.end);
-    match read {
-        IntAnswer::Value(sign, magnitude) => {
-            let value = bits(sign, magnitude);
+    match ints::int_value(text, span.start, span.end) {
+        Ok(int) => {
+            let value = bits(int);
             Literal::Value(Label {
                 kind: nodes::INT,
                 start: span.start,
@@ -66,11 +54,12 @@ fn int(text: &[u8], span: Span) -> Literal
                 flags: 0,
             })
         }
-        IntAnswer::Fault(f) => Literal::Faulty(ints::fault_number(f)),
+        Err(fault) => Literal::Faulty(ints::fault_number(fault)),
     }
 }
 
-// The token's literal, by its kind.
+// The token's literal, by its kind. A row of tests, since a kind is a word of the caller's list and the constants are bytes: a `match` after a
+// conversion that can fail is no plainer.
 pub fn literal_of(text: &[u8], kind: u32, span: Span) -> Literal
     ensures { result ≡ literal text.now kind span }
 {
@@ -102,56 +91,38 @@ pub fn literal_of(text: &[u8], kind: u32, span: Span) -> Literal
 }
 
 // Rust's parse_lit.
-pub fn lit(text: &[u8], tokens: &[u32], nodes: &mut [u32], limits: Limits, s: State) -> Built
-    ensures { (e x l : List ℕ) → as_built result (world nodes.new e x l) ≡ lit (sheet text.now tokens.now limits) s (world nodes.old e x l) }
+pub fn lit(p: &mut Parser<'_>, sheet: &Sheet<'_>) -> Result<u32, Stop>
+    ensures ended { ended p.new result ≡ run (lit (sheet_of sheet.now)) p.old }
+    ensures lent { SameLists p.old p.new }
 {
-    let here = current_range(tokens, s);
-    let span = match here {
-        Ranged::At(r) => r,
-        Ranged::Nowhere => return Built::Failed(unexpected(tokens, s)),
+    let Some(span) = p.current_range(sheet) else {
+        return Err(p.unexpected(sheet));
     };
-    let found = literal_of(text, current_kind(tokens, s), span);
-    let label = match found {
-        Literal::Value(l) => l,
-        Literal::Faulty(n) => {
-            let fault = Fault {
+    let label = match literal_of(sheet.text, p.current_kind(sheet), span) {
+        Literal::Value(label) => label,
+        Literal::Faulty(number) => {
+            return Err(Stop::Fault(Fault {
                 class: 1,
-                found: n as u32,
+                found: number as u32,
                 span,
-                listed: 0,
-            };
-            return Built::Failed(erred(s, fault));
+                listed: false,
+            }));
         }
-        Literal::Nothing => return Built::Failed(unexpected(tokens, s)),
+        Literal::Nothing => return Err(p.unexpected(sheet)),
     };
-    let taken = bump(tokens, limits, s);
-    let s1 = match taken {
-        Moved::On(t) => t,
-        Moved::Failed(f) => return Built::Failed(f),
-    };
-    append(nodes, s1, label, 0)
+    p.bump(sheet)?;
+    p.append(label, 0)
 }
 
 // Rust's parse_ident.
-pub fn ident(
-    tokens: &[u32],
-    nodes: &mut [u32],
-    live: &mut [u8; 1024],
-    limits: Limits,
-    s: State,
-) -> Built
-    ensures { (t e x : List ℕ) → as_built result (world nodes.new e x live.new) ≡ ident (sheet t tokens.now limits) s (world nodes.old e x live.old) }
+pub fn ident(p: &mut Parser<'_>, sheet: &Sheet<'_>) -> Result<u32, Stop>
+    ensures ended { ended p.new result ≡ run (ident (sheet_of sheet.now)) p.old }
+    ensures lent { SameErrors p.old p.new }
 {
-    let here = current_range(tokens, s);
-    let span = match here {
-        Ranged::At(r) => r,
-        Ranged::Nowhere => return Built::Failed(unexpected(tokens, s)),
+    let Some(span) = p.current_range(sheet) else {
+        return Err(p.unexpected(sheet));
     };
-    let named = expect(tokens, live, limits, s, kinds::IDENT);
-    let s1 = match named {
-        Moved::On(t) => t,
-        Moved::Failed(f) => return Built::Failed(f),
-    };
+    p.expect(sheet, kinds::IDENT)?;
     let label = Label {
         kind: nodes::IDENT,
         start: span.start,
@@ -160,5 +131,5 @@ pub fn ident(
         two: 0,
         flags: 0,
     };
-    append(nodes, s1, label, 0)
+    p.append(label, 0)
 }

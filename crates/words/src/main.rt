@@ -5,8 +5,10 @@
 // piece says how many they were, so that a stream cut short is seen.
 #![tactic(auto)]
 
-use listing::Decoded;
-use pieces::{Piece, word};
+ghost use Rattle.std.specs.Prelude.{◌<◌, ◌^◌, length};
+
+use std::alloc::{AllocError, Global};
+use std::io;
 
 // The number that stands for a piece that is none: no bundle, or more is lent than there is here.
 const NO_BUNDLE: u8 = 12;
@@ -21,6 +23,16 @@ const ERROR_ROOM: usize = 396;
 
 const EXPECTED_ROOM: usize = 65537;
 
+// The longest piece, and at most so many pieces.
+const ROOM: usize = 102434;
+
+const PIECES: u32 = 65536;
+
+// The mark that the lent buffers and the counts are full of before.
+const MARK: u8 = 0xa5;
+
+const WORD_MARK: u32 = 0xa5a5_a5a5;
+
 // What a piece lends: words of the node and the error buffer, bytes of the expected buffer, readings.
 #[derive(Clone, Copy)]
 struct Lent {
@@ -30,217 +42,106 @@ struct Lent {
     allowance: u32,
 }
 
-// One byte more of an answer. The room is that of the longest answer, with all buffers full.
-fn put(out: &mut [u8; 329358], at: usize, byte: u8) -> usize {
-    if at < 329358 {
-        out[at] = byte;
-        return at + 1;
+// What a piece's head lends, if there is so much here.
+fn lent_by(head: &[u8; HEAD]) -> Option<Lent> {
+    let lent = Lent {
+        nodes: pieces::word(head[0], head[1], head[2], head[3]) as usize,
+        errors: pieces::word(head[4], head[5], head[6], head[7]) as usize,
+        expected: pieces::word(head[8], head[9], head[10], head[11]) as usize,
+        allowance: pieces::word(head[12], head[13], head[14], head[15]),
+    };
+    if NODE_ROOM < lent.nodes || ERROR_ROOM < lent.errors || EXPECTED_ROOM < lent.expected {
+        return None;
     }
-    at
+    Some(lent)
 }
 
-// A word in four bytes, the lowest first.
-fn put_word(out: &mut [u8; 329358], at: usize, number: u32) -> usize {
-    let one = put(out, at, (number % 0x100) as u8);
-    let two = put(out, one, (number / 0x100 % 0x100) as u8);
-    let three = put(out, two, (number / 0x1_0000 % 0x100) as u8);
-    put(out, three, (number / 0x100_0000 % 0x100) as u8)
+// A count in four bytes, the lowest first.
+fn put_count(answer: &mut Vec<u8>, count: usize) -> Result<(), AllocError> {
+    answer.extend_from_slice(&u32::try_from(count).unwrap_or(u32::MAX).to_le_bytes())
 }
 
-// A count in four bytes.
-fn put_count(out: &mut [u8; 329358], at: usize, count: usize) -> usize {
-    let one = put(out, at, (count % 0x100) as u8);
-    let two = put(out, one, (count / 0x100 % 0x100) as u8);
-    let three = put(out, two, (count / 0x1_0000 % 0x100) as u8);
-    put(out, three, (count / 0x100_0000 % 0x100) as u8)
+// A buffer up to the last element that is not zero. The bound is that of every slice of elements with a size.
+fn used<T: Copy + PartialEq>(buffer: &[T], zero: T) -> &[T]
+    requires { length buffer.now < 2 ^ 63 }
+{
+    let end = buffer
+        .iter()
+        .rposition(|element| *element != zero)
+        .map_or(0, |last| last + 1);
+    &buffer[..end]
 }
 
-// The words of a buffer up to a count.
-fn put_words(out: &mut [u8; 329358], at: usize, words: &[u32], count: usize) -> usize {
-    let mut end = at;
-    let mut i = 0;
-    while i < words.len() {
-        if count <= i {
-            return end;
-        }
-        end = put_word(out, end, words[i]);
-        i += 1;
+fn put_words(answer: &mut Vec<u8>, buffer: &[u32]) -> Result<(), AllocError> {
+    let words = used(buffer, 0);
+    put_count(answer, words.len())?;
+    for word in words {
+        answer.extend_from_slice(&word.to_le_bytes())?;
     }
-    end
+    Ok(())
 }
 
-// The bytes of a buffer up to a count.
-fn put_bytes(out: &mut [u8; 329358], at: usize, bytes: &[u8], count: usize) -> usize {
-    let mut end = at;
-    let mut i = 0;
-    while i < bytes.len() {
-        if count <= i {
-            return end;
-        }
-        end = put(out, end, bytes[i]);
-        i += 1;
-    }
-    end
+fn put_bytes(answer: &mut Vec<u8>, buffer: &[u8]) -> Result<(), AllocError> {
+    let bytes = used(buffer, 0);
+    put_count(answer, bytes.len())?;
+    answer.extend_from_slice(bytes)
 }
 
-// How many words a buffer has up to the last that is not zero.
-fn used_words(words: &[u32]) -> usize {
-    let mut i = words.len();
-    while 0 < i {
-        if words[i - 1] != 0 {
-            return i;
-        }
-        i -= 1;
-    }
-    0
-}
-
-fn used_bytes(bytes: &[u8]) -> usize {
-    let mut i = bytes.len();
-    while 0 < i {
-        if bytes[i - 1] != 0 {
-            return i;
-        }
-        i -= 1;
-    }
-    0
-}
-
-fn put_word_buffer(out: &mut [u8; 329358], at: usize, words: &[u32]) -> usize {
-    let count = used_words(words);
-    let end = put_count(out, at, count);
-    put_words(out, end, words, count)
-}
-
-fn put_byte_buffer(out: &mut [u8; 329358], at: usize, bytes: &[u8]) -> usize {
-    let count = used_bytes(bytes);
-    let end = put_count(out, at, count);
-    put_bytes(out, end, bytes, count)
-}
-
-// An answer's number and counts, and what the buffers hold.
-fn put_answer(
-    out: &mut [u8; 329358],
-    nodes: &[u32],
-    errors: &[u32],
-    expected: &[u8],
-    number: u8,
-    counts: &[u32; 4],
-) -> usize {
-    let mut end = put(out, 0, number);
-    end = put_word(out, end, counts[0]);
-    end = put_word(out, end, counts[1]);
-    end = put_word(out, end, counts[2]);
-    end = put_word(out, end, counts[3]);
-    end = put_word_buffer(out, end, nodes);
-    end = put_word_buffer(out, end, errors);
-    put_byte_buffer(out, end, expected)
-}
-
-// Reads a sheet into what is lent. The counts are marks before, which must not stay.
-fn answer(
-    text: &[u8],
-    tokens: &[u32],
-    nodes: &mut [u32],
-    errors: &mut [u32],
-    expected: &mut [u8],
-    allowance: u32,
-    out: &mut [u8; 329358],
-) -> usize {
-    let mut counts = [0xa5a5_a5a5u32; 4];
+// Reads a sheet into buffers that are full of marks: what they held must not matter to a reading, and a refusal that leaves them as they
+// were must leave the marks. The counts are marks before, which must not stay.
+fn read(alloc: Global, text: &[u8], tokens: &[u32], lent: Lent) -> Result<Vec<u8>, AllocError> {
+    let mut nodes = vec![in alloc; WORD_MARK; lent.nodes]?;
+    let mut errors = vec![in alloc; WORD_MARK; lent.errors]?;
+    let mut expected = vec![in alloc; MARK; lent.expected]?;
+    let mut counts = [WORD_MARK; 4];
     let number = parser::lucia_parse(
         text,
         tokens,
-        allowance,
-        nodes,
-        errors,
-        expected,
+        lent.allowance,
+        &mut nodes,
+        &mut errors,
+        &mut expected,
         &mut counts,
     );
-    put_answer(out, nodes, errors, expected, number, &counts)
+    let mut answer = Vec::new(alloc);
+    answer.push(number)?;
+    for count in counts {
+        answer.extend_from_slice(&count.to_le_bytes())?;
+    }
+    put_words(&mut answer, &nodes)?;
+    put_words(&mut answer, &errors)?;
+    put_bytes(&mut answer, &expected)?;
+    Ok(answer)
 }
 
-// Lends parts of buffers that are full of marks: what they held must not matter to a reading, and a refusal that leaves them as they were
-// must leave the marks.
-fn sheet(text: &[u8], tokens: &[u32], lent: Lent, out: &mut [u8; 329358]) -> usize {
-    if NODE_ROOM < lent.nodes {
-        return put(out, 0, NO_BUNDLE);
-    }
-    if ERROR_ROOM < lent.errors {
-        return put(out, 0, NO_BUNDLE);
-    }
-    if EXPECTED_ROOM < lent.expected {
-        return put(out, 0, NO_BUNDLE);
-    }
-    let mut nodes = [0xa5a5_a5a5u32; NODE_ROOM];
-    let mut errors = [0xa5a5_a5a5u32; ERROR_ROOM];
-    let mut expected = [0xa5u8; EXPECTED_ROOM];
-    answer(
-        text,
-        tokens,
-        &mut nodes[..lent.nodes],
-        &mut errors[..lent.errors],
-        &mut expected[..lent.expected],
-        lent.allowance,
-        out,
-    )
-}
-
-// Takes a bundle apart and reads it. There is room for a text and for tokens of one more than may be lent.
-fn lend(bundle: &[u8], lent: Lent, out: &mut [u8; 329358]) -> usize {
+// The answer to a piece. There is room for a text and for tokens of one more than may be lent.
+fn answer_to(alloc: Global, piece: &[u8]) -> Result<Vec<u8>, AllocError> {
     let mut text = [0u8; 65536];
     let mut tokens = [0u32; 12291];
-    let decoded = listing::decode(bundle, &mut text, &mut tokens);
-    match decoded {
-        Decoded::Sheet(n, m) => sheet(&text[..n], &tokens[..3 * m], lent, out),
-        Decoded::Refused => put(out, 0, NO_BUNDLE),
-    }
-}
-
-// Takes what is lent from a piece's head.
-fn whole_answer(piece: &[u8], out: &mut [u8; 329358]) -> usize {
-    if piece.len() < HEAD {
-        return put(out, 0, NO_BUNDLE);
-    }
-    let nodes = word(piece[0], piece[1], piece[2], piece[3]) as usize;
-    let errors = word(piece[4], piece[5], piece[6], piece[7]) as usize;
-    let expected = word(piece[8], piece[9], piece[10], piece[11]) as usize;
-    let allowance = word(piece[12], piece[13], piece[14], piece[15]);
-    let lent = Lent {
-        nodes,
-        errors,
-        expected,
-        allowance,
-    };
-    lend(&piece[HEAD..], lent, out)
-}
-
-// A function of its own: how long an array that was lent is, is known only where a parameter has its type.
-fn print_answer(out: &[u8; 329358], end: usize) {
-    pieces::write(out, end);
-}
-
-// Reads one piece into the room for it and writes its answer; false at the end of the stream.
-fn answer_next(room: &mut [u8]) -> bool {
-    let piece = pieces::read(room);
-    let Piece::Bytes(n) = piece else {
-        return false;
-    };
-    let mut out = [0u8; 329358];
-    let end = whole_answer(&room[..n], &mut out);
-    print_answer(&out, end);
-    true
-}
-
-// At most so many pieces.
-fn main() {
-    let mut room = [0u8; 102434];
-    let mut i: u32 = 0;
-    while i < 65536 {
-        if !answer_next(&mut room) {
-            break;
+    if let Some((head, bundle)) = piece.split_first_chunk::<HEAD>() {
+        if let Some(lent) = lent_by(head) {
+            if let Some(held) = listing::decode(bundle, &mut text, &mut tokens) {
+                return read(alloc, &text[..held.text], &tokens[..3 * held.tokens], lent);
+            }
         }
-        i += 1;
     }
-    pieces::write_count(i);
+    Ok(vec![in alloc; NO_BUNDLE]?)
+}
+
+// The same loop as in `replay`: a function for both would take the answer to a piece as a closure, of whose writing its contract could say
+// nothing.
+fn main(rt: HostRuntime) -> io::Result<()> {
+    let mut input = rt.reader();
+    let mut output = io::writer(&rt);
+    let mut room = [0u8; ROOM];
+    let mut count = 0;
+    for number in 1..=PIECES {
+        let Some(n) = pieces::read(&mut input, &mut room) else {
+            break;
+        };
+        let answer = answer_to(rt.alloc(), &room[..n])?;
+        pieces::write(&mut output, &answer)?;
+        count = number;
+    }
+    pieces::write_count(rt.alloc(), &mut output, count)
 }

@@ -1,16 +1,23 @@
 -- `byte_in` meets its contract: each way out is one case of what the form says there.
-use Rattle.std.proofs.Common.{sym}
+use Rattle.std.proofs.Common.{◌≡◌, ◌<◌, ◌≤◌, length, get_or, sym, ◌∙◌, arith}
+use Rattle.std.proofs.lemmas.Grind.{common_steps}
+use borrow.Author.Tests.{lt-leb}
 use Rattle.entry.proofs.Fits as fit
 use Rattle.entry.proofs.byte_in.Goals as goal
 
-pub returns-then-text-at : goal.returns-then-text-at
-returns-then-text-at c = sym (fit.fits-past _ _ _ _ c.if-text-at.true)
+pub returns-then-low-b : goal.returns-then-low-b
+returns-then-low-b c =
+    let h : c.args.at < length c.args.text.now = grind (arith, common_steps) in
+    let b : c.in-Some.field-0.now ≡ get_or c.args.text.now c.args.at 0 = grind (arith, common_steps) in
+    rw b (sym (fit.byte-from _ _ _ h (rw b at c.if-low-b.true)))
 
-pub returns-then-b-low : goal.returns-then-b-low
-returns-then-b-low c = sym (fit.byte-below _ _ _ c.if-text-at.false c.if-b-low.true)
+pub returns-else-low-b : goal.returns-else-low-b
+returns-else-low-b c =
+    let h : c.args.at < length c.args.text.now = grind (arith, common_steps) in
+    let b : c.in-Some.field-0.now ≡ get_or c.args.text.now c.args.at 0 = grind (arith, common_steps) in
+    lt-leb c.args.low c.in-Some.field-0.now c.if-low-b.false ∙ sym (fit.byte-below _ _ _ h (rw b at c.if-low-b.false))
 
-pub returns-then-high-b : goal.returns-then-high-b
-returns-then-high-b c = sym (fit.byte_above _ _ _ c.if-text-at.false c.if-high-b.true)
-
-pub returns : goal.returns
-returns c = sym (fit.byte-there _ _ _ c.if-text-at.false c.if-b-low.false c.if-high-b.false)
+pub returns-in-None : goal.returns-in-None
+returns-in-None c =
+    let h : length c.args.text.now ≤ c.args.at = grind (arith, common_steps) in
+    sym (fit.fits-past _ _ _ _ h)

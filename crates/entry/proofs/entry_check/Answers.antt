@@ -14,8 +14,8 @@ returns-then-tokens-gt-MAX_TOKENS c = sym (paths.entry-many _ _ c.if-text-gt-MAX
 pub returns-then-not-is_utf8 : goal.returns-then-not-is_utf8
 returns-then-not-is_utf8 c = sym (paths.entry-bytes _ _ c.if-text-gt-MAX_TEXT.false c.if-tokens-gt-MAX_TOKENS.false (sym c.is_utf8.ensures ∙ c.if-not-is_utf8.true))
 
-pub tokens_fault-requires : goal.tokens_fault-requires
-tokens_fault-requires c = first-place c.args.text.now (sym c.is_utf8.ensures ∙ c.if-not-is_utf8.false)
+pub check_tokens-requires : goal.check_tokens-requires
+check_tokens-requires c = first-place c.args.text.now (sym c.is_utf8.ensures ∙ c.if-not-is_utf8.false)
 
 pub returns : goal.returns
-returns c = c.tokens_fault.ensures ∙ sym (paths.entry-tokens _ _ c.if-text-gt-MAX_TEXT.false c.if-tokens-gt-MAX_TOKENS.false (sym c.is_utf8.ensures ∙ c.if-not-is_utf8.false) ∙ tokens-same c.args.text.now (boundary c.args.text.now) (no_tail c.args.text.now) (boundary-no-tail c.args.text.now (sym c.is_utf8.ensures ∙ c.if-not-is_utf8.false)) _ _)
+returns c = c.check_tokens.ensures ∙ sym (paths.entry-tokens _ _ c.if-text-gt-MAX_TEXT.false c.if-tokens-gt-MAX_TOKENS.false (sym c.is_utf8.ensures ∙ c.if-not-is_utf8.false) ∙ tokens-same c.args.text.now (boundary c.args.text.now) (no_tail c.args.text.now) (boundary-no-tail c.args.text.now (sym c.is_utf8.ensures ∙ c.if-not-is_utf8.false)) _ _)

@@ -1,13 +1,14 @@
 -- `marks` meets its contract.
-use Rattle.std.proofs.Common.{sym, ◌∙◌}
+use Rattle.std.proofs.Common.{sym, ◌∙◌, arith}
+use borrow.Author.Tests.{ne_eqb}
 use Rattle.entry.proofs.Paths as paths
 use Rattle.entry.proofs.marks.Goals as goal
 
-pub returns-then-s-eq0 : goal.returns-then-s-eq0
-returns-then-s-eq0 c = sym (paths.marked-none _ _ c.if-s-eq0.true)
+pub returns-in-empty : goal.returns-in-empty
+returns-in-empty c = sym (paths.marked-none _ _ (omega arith))
 
-pub returns-then-s-letter : goal.returns-then-s-letter
-returns-then-s-letter c = sym (paths.marked_other _ _ c.if-s-eq0.false c.if-s-letter.true)
+pub returns-then-first-letter : goal.returns-then-first-letter
+returns-then-first-letter c = c.quotes.ensures ∙ sym (paths.marked-rest _ _ (λ e. omega arith) c.if-first-letter.true)
 
-pub returns : goal.returns
-returns c = c.quotes.ensures ∙ sym (paths.marked-rest _ _ c.if-s-eq0.false c.if-s-letter.false)
+pub returns-else-first-letter : goal.returns-else-first-letter
+returns-else-first-letter c = ne_eqb _ _ c.if-first-letter.false ∙ sym (paths.marked_other _ _ (λ e. omega arith) c.if-first-letter.false)

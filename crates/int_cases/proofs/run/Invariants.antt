@@ -1,8 +1,8 @@
-use Rattle.std.proofs.Common.{◌-◌, ◌≤◌, length}
+use Rattle.std.proofs.Common.{length, ◌+◌, ◌≤◌}
 use Rattle.int_cases.proofs.run.Given as goal
 
-abbrev pub invariant-loop-at : goal.invariant-loop-at
-invariant-loop-at l = (l.cases ≤ l.at) × (l.wrong ≤ l.cases)
+abbrev pub invariant-loop-first : goal.invariant-loop-first
+invariant-loop-first g l = (l.cases + length l.rest ≤ length l.s) × (l.wrong ≤ l.cases)
 
-abbrev pub decreases-loop-at : goal.decreases-loop-at
-decreases-loop-at l = length l.s - l.at
+abbrev pub decreases-loop-first : goal.decreases-loop-first
+decreases-loop-first g l = length l.rest

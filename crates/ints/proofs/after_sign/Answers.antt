@@ -1,11 +1,18 @@
 -- `ints::after_sign` meets its contract.
-use Rattle.std.proofs.Common.{sym, ◌∙◌, ap}
+use Rattle.std.proofs.Common.{◌≡◌, [], ◌∷◌, sym, ◌∙◌, ap, rules, Err}
+use Rattle.ints.specs.declared.IntFault.TheVariants.{InvalidDigit}
 use Rattle.ints.specs.Answer.{afterwards}
+use Rattle.ints.specs.Reading.{unread}
 use Rattle.ints.proofs.Paths as paths
 use Rattle.ints.proofs.after_sign.Goals as goal
 
-pub returns-in-End : goal.returns-in-End
-returns-in-End c = sym (ap (afterwards _ _) (sym (rw c.in-End.is at c.next_byte-first.ensures)) ∙ paths.after_nothing _ _)
+pub returns-in_err-first : goal.returns-in_err-first
+returns-in_err-first c =
+    let e : c.from_residual.result ≡ Err InvalidDigit = search rules in
+    let none : unread c.args.rest ≡ [] = search rules in
+    e ∙ sym (ap (afterwards _ _) none ∙ paths.after_nothing _ _)
 
 pub returns : goal.returns
-returns c = c.number.ensures ∙ rw c.in_default.is (sym (ap (afterwards _ _) (sym (rw c.in_default.is at c.next_byte-first.ensures)) ∙ paths.after-some _ _ _ _))
+returns c =
+    let all : unread c.args.rest ≡ c.in_ok-first.first ∷ unread c.next.new.self = search rules in
+    c.number.ensures ∙ sym (ap (afterwards _ _) all ∙ paths.after-some _ _ _ _)

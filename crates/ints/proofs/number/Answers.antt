@@ -1,36 +1,39 @@
 -- `ints::number` meets its contract. The invariant: reading on from here with the number so far gives what the definition gives for all.
-use Rattle.std.proofs.Common.{◌*◌, sym, ◌∙◌, refl, arith, ap}
-use borrow.Author.Tests.{leb-true, leb-false}
-use Rattle.ints.specs.declared.IntAnswer.TheVariants.{Fault}
+use Rattle.std.proofs.Common.{◌≡◌, sym, ◌∙◌, ap, rules, Err, Ok}
+use Rattle.ints.specs.Reading.{unread, grown}
 use Rattle.ints.proofs.Run as runs
+use Rattle.ints.proofs.Run.{run}
 use Rattle.ints.proofs.number.Goals as goal
 
-pub loop-seen-init : goal.loop-seen-init
-loop-seen-init c = (refl, omega arith)
+pub returns-in_err-magnitude : goal.returns-in_err-magnitude
+returns-in_err-magnitude c =
+    let e : c.from_residual.result ≡ Err c.in_err-magnitude.field-0.0 = search rules in
+    e ∙ sym (runs.run-all _ _ _ ∙ runs.run-stops _ _ _ _ _ (sym c.grown.ensures ∙ c.in_err-magnitude.was))
 
-pub returns-in_default : goal.returns-in_default
-returns-in_default c = sym (runs.run-all _ _ _ ∙ (rw c.in_default.is at c.loop-seen.invariant.0) ∙ runs.run_end _ _ _)
+pub loop-b-init : goal.loop-b-init
+loop-b-init c =
+    let more : grown c.args.radix c.args.sign 0 c.args.first ≡ Ok c.in_ok-magnitude.magnitude = sym c.grown.ensures ∙ c.in_ok-magnitude.was in
+    record {
+      can = tt;
+      ends = tt;
+      small = runs.grown-small _ _ _ _ more;
+      run = runs.run-all _ _ _ ∙ runs.run-on _ _ _ _ _ more ∙ ap (λ k. run c.args.radix c.args.sign c.in_ok-magnitude.magnitude (unread k)) (sym c.into_iter-b-iterator.ensures.into_iter_gives);
+    }
 
-pub returns-then-radix-digit : goal.returns-then-radix-digit
-returns-then-radix-digit c = sym ((runs.run-all _ _ _ ∙ (rw c.in-Byte.is at c.loop-seen.invariant.0)) ∙ runs.run-wrong _ _ _ _ _ (runs.judged-none _ _ _ _ (omega (arith, c.digit_of-digit.ensures))))
+pub returns-in_err-magnitude-2 : goal.returns-in_err-magnitude-2
+returns-in_err-magnitude-2 c =
+    let e : c.from_residual-in_err-magnitude-2.result ≡ Err c.in_err-magnitude-2.field-0.0 = search rules in
+    e ∙ sym (c.loop-b.invariant.run ∙ ap (run _ _ _) c.in-Some.ensures.steps ∙ runs.run-stops _ _ _ _ _ (sym c.grown-in-loop-b.ensures ∙ c.in_err-magnitude-2.was))
 
-pub has_room-requires : goal.has_room-requires
-has_room-requires c = omega (arith, c.largest_of-limit.ensures, runs.largest-about c.args.sign)
+pub loop-b-preserved : goal.loop-b-preserved
+loop-b-preserved c =
+    let more : grown c.args.radix c.args.sign c.loop-b.magnitude c.in-Some.b ≡ Ok c.in_ok-magnitude-2.magnitude = sym c.grown-in-loop-b.ensures ∙ c.in_ok-magnitude-2.was in
+    record {
+      can = tt;
+      ends = tt;
+      small = runs.grown-small _ _ _ _ more;
+      run = c.loop-b.invariant.run ∙ ap (run _ _ _) c.in-Some.ensures.steps ∙ runs.run-on _ _ _ _ _ more;
+    }
 
-pub returns-then-not-has_room : goal.returns-then-not-has_room
-returns-then-not-has_room c = ap Fault c.beyond_of.ensures ∙ sym ((runs.run-all _ _ _ ∙ (rw c.in-Byte.is at c.loop-seen.invariant.0)) ∙ runs.run-wrong _ _ _ _ _ (runs.judged-beyond _ _ _ _ (omega (arith, c.digit_of-digit.ensures)) (omega (arith, c.largest_of-limit.ensures, leb-false (c.loop-seen.size * c.args.radix) c.largest_of-limit.result (sym c.has_room.ensures ∙ c.if-not-has_room.true)))))
-
-pub overflow_mul-size : goal.overflow_mul-size
-overflow_mul-size c = omega (arith, c.largest_of-limit.ensures, runs.largest-about c.args.sign, leb-true (c.loop-seen.size * c.args.radix) c.largest_of-limit.result (sym c.has_room.ensures ∙ c.if-not-has_room.false))
-
-pub overflow_add-size : goal.overflow_add-size
-overflow_add-size c = omega (arith, c.largest_of-limit.ensures, runs.largest-about c.args.sign, leb-true (c.loop-seen.size * c.args.radix) c.largest_of-limit.result (sym c.has_room.ensures ∙ c.if-not-has_room.false))
-
-pub returns-then-limit-size : goal.returns-then-limit-size
-returns-then-limit-size c = ap Fault c.beyond_of-then-limit-size.ensures ∙ sym ((runs.run-all _ _ _ ∙ (rw c.in-Byte.is at c.loop-seen.invariant.0)) ∙ runs.run-wrong _ _ _ _ _ (runs.judged-beyond _ _ _ _ (omega (arith, c.digit_of-digit.ensures)) (omega (arith, c.largest_of-limit.ensures, c.digit_of-digit.ensures))))
-
-pub loop-seen-smaller : goal.loop-seen-smaller
-loop-seen-smaller c = rw (c.next_byte-seen.ensures, c.in-Byte.is) (omega arith)
-
-pub loop-seen-preserved : goal.loop-seen-preserved
-loop-seen-preserved c = (rw (c.next_byte-seen.ensures, c.digit_of-digit.ensures) ((rw c.in-Byte.is at c.loop-seen.invariant.0) ∙ runs.run-right _ _ c.loop-seen.size _ _ (runs.judged-right _ _ _ _ (omega (arith, c.digit_of-digit.ensures)) (omega (arith, c.largest_of-limit.ensures, c.digit_of-digit.ensures)))), omega (arith, c.largest_of-limit.ensures))
+pub returns : goal.returns
+returns c = sym (c.loop-b.invariant.run ∙ ap (run _ _ _) c.in-None.ensures.steps.0 ∙ runs.run_end _ _ _)

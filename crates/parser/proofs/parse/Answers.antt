@@ -1,17 +1,21 @@
 -- `parse` meets its contract: the entry check decides, and the program's rule is blind to what the buffers held.
-use Rattle.std.proofs.Common.{sym, ◌∙◌, refl}
-use Rattle.parser.proofs.ParsePaths.{unfit-on, read-on, numbered, refused-short, refused-on}
+use Rattle.std.proofs.Common.{sym, ◌∙◌, refl, rules, Ok, Err}
+use Rattle.parser.specs.declared.Refusal.TheVariants.{CutOff}
+use Rattle.parser.proofs.ParsePaths.{unfit-exit, read-on, refusing, refused-on, held, held-cleared}
 use Rattle.parser.proofs.Contract.{contract}
 use Rattle.parser.proofs.parse.Goals as goal
 
-pub returns-in-Refused : goal.returns-in-Refused
-returns-in-Refused c = contract _ _ _ _ _ _ (unfit-on _ _ _ _ _ _ (sym c.in-Refused.ensures) c.refusal_number.ensures)
+pub returns-in_err-entry_check : goal.returns-in_err-entry_check
+returns-in_err-entry_check c = contract _ _ _ _ _ _ (unfit-exit _ _ _ _ _ _ c.from_residual.result c.from_residual.ensures (sym c.in_err-entry_check.ensures))
 
 pub refuse-requires : goal.refuse-requires
-refuse-requires c = numbered c.in-Failed.f _ (refused-short _ _ _ _ _ _ _ refl (sym c.in-Failed.ensures))
+refuse-requires c = refusing _ _ _ _ _ _ _ c.program.new.p c.in-Err.stop (sym c.in-Err.ensures.ended)
 
-pub returns-in-Node : goal.returns-in-Node
-returns-in-Node c = contract _ _ _ _ _ _ (c.read.ensures ∙ read-on _ _ _ _ _ _ _ refl (sym c.in-Fit.ensures) (sym c.in-Node.ensures))
+pub returns-in-Ok : goal.returns-in-Ok
+returns-in-Ok c = contract _ _ _ _ _ _ (held (Ok c.read.result) c.read.new.p (c.read.ensures.read ∙ read-on _ _ _ _ _ _ _ refl (sym c.in_ok-entry_check.ensures) (sym c.in-Ok.ensures.ended)) (search rules) (search rules) (search rules))
 
-pub returns-in-Failed : goal.returns-in-Failed
-returns-in-Failed c = contract _ _ _ _ _ _ (c.refuse.ensures _ ∙ refused-on _ _ _ _ _ _ _ refl (sym c.in-Fit.ensures) _ _ _ c.program-got.auto.nodes c.program-got.auto.errors c.program-got.auto.wanted (sym c.in-Failed.ensures))
+pub returns-in-Err : goal.returns-in-Err
+returns-in-Err c = contract _ _ _ _ _ _ (held-cleared (CutOff c.refuse.result) c.refuse.new.p c.program.new.p _ c.args.nodes.now c.args.errors.now c.args.expected.now
+    c.refuse.ensures.refused
+    (λ i j k. refused-on _ _ _ _ _ _ _ refl (sym c.in_ok-entry_check.ensures) _ _ _ i j k (sym c.in-Err.ensures.ended))
+    (search rules) (search rules) (search rules) (search rules) (search rules) (search rules))

@@ -1,8 +1,11 @@
-use Rattle.cursor.proofs.CheckPaths as paths
+use Rattle.std.proofs.Common.{refl}
+use Rattle.cursor.specs.Checks.{full_at}
 use Rattle.cursor.proofs.checks.is_full.Goals as goal
 
-pub returns-then-roomy : goal.returns-then-roomy
-returns-then-roomy c = paths.full-roomy _ _ c.if-roomy.true
+pub returns-then-not-roomy : goal.returns-then-not-roomy
+unfolding full_at
+returns-then-not-roomy c = rw c.if-not-roomy.true refl
 
-pub returns-else-roomy : goal.returns-else-roomy
-returns-else-roomy c = paths.full-tight _ _ c.if-roomy.false
+pub returns-else-not-roomy : goal.returns-else-not-roomy
+unfolding full_at
+returns-else-not-roomy c = rw c.if-not-roomy.false refl

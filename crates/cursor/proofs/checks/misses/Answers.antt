@@ -2,8 +2,8 @@ use Rattle.std.proofs.Common.{sym, ◌∙◌}
 use Rattle.cursor.proofs.ChainPaths as paths
 use Rattle.cursor.proofs.checks.misses.Goals as goal
 
-pub returns-then-is_in : goal.returns-then-is_in
-returns-then-is_in c = paths.miss-in _ _ _ (sym c.is_in.ensures ∙ c.if-is_in.true)
+pub returns-then-not-is_in : goal.returns-then-not-is_in
+returns-then-not-is_in c = c.has_room.ensures ∙ paths.miss-room _ _ _ (sym c.is_in.ensures ∙ c.if-not-is_in.true)
 
-pub returns : goal.returns
-returns c = c.has_room.ensures ∙ paths.miss-room _ _ _ (sym c.is_in.ensures ∙ c.if-is_in.false)
+pub returns-else-not-is_in : goal.returns-else-not-is_in
+returns-else-not-is_in c = rw c.if-not-is_in.false (paths.miss-in _ _ _ (sym c.is_in.ensures ∙ c.if-not-is_in.false))

@@ -1,8 +1,10 @@
--- `kinds::table::row` meets its contract: the table's rule is one test, computed over its 79 entries.
+-- `kinds::table::row` meets its contract: the table's rule is one test, computed over its 79 entries, and past them the entry is 0.
 -- Assumes nothing.
-use Rattle.std.proofs.Common.{ℕ, ◌<◌, ◌/◌, ◌%◌, Bool, List, get_or, ◌≡◌}
+use Rattle.std.proofs.Common.{ℕ, ◌≤◌, ◌/◌, ◌%◌, Bool, List, length, get_or, ◌≡◌, rules, arith}
+use native.Mathlib.Decide.{dec_lt}
 use lib.Dec.{T, eqb, eqb→eq}
-use Rattle.kinds.specs.Kinds.{is_trivia, kind_name}
+use lib.ListN.{get_or-eq_default}
+use Rattle.kinds.specs.Kinds.{is_trivia}
 use Rattle.kinds.specs.Operators.{level_of, binary_of}
 use Rattle.kinds.specs.Listing.{name_place, listing_name}
 use Rattle.kinds.specs.declared.table.TheConstants.{TABLE}
@@ -23,13 +25,17 @@ rule k x t =
       name = eqb→eq _ _ (both-second (eqb (x / 16 % 16) (level_of k)) _ rest);
     }
 
-entries : (table : List ℕ) → T (every 79 (λ k. right k (get_or table k 0))) → (k : ℕ) → k < 79 → Row k (get_or table k 0)
-entries table t k h = rule k (get_or table k 0) (at 79 (λ k. right k (get_or table k 0)) t k h)
-
-pub returns-then-kind-lt79 : goal.returns-then-kind-lt79
+no-kind : (k : ℕ) → 79 ≤ k → Row k 0
 unfolding is_trivia level_of binary_of name_place listing_name
-returns-then-kind-lt79 c = entries TABLE tt c.args.kind c.if-kind-lt79.true
+no-kind k h = let e = past k h in record { trivia = rw e; level = rw e; name = rw e }
 
-pub returns-else-kind-lt79 : goal.returns-else-kind-lt79
+module _ (table : List ℕ) (t : T (every 79 (λ k. right k (get_or table k 0)))) (long : length table ≤ 79) (k : ℕ) where
+  entry : Row k (get_or table k 0)
+  entry = elim (dec_lt k 79) [
+    | yes h ↦ rule k (get_or table k 0) (at 79 (λ k. right k (get_or table k 0)) t k h)
+    | no h ↦ let gone : length table ≤ k = omega arith in rw (get_or-eq_default table 0 gone) (no-kind k (omega arith))
+  ]
+
+pub returns : goal.returns
 unfolding is_trivia level_of binary_of name_place listing_name
-returns-else-kind-lt79 c = let h : kind_name c.args.kind ≡ "" = past _ c.if-kind-lt79.false in record { trivia = rw h; level = rw h; name = rw h }
+returns c = let read : c.unwrap_or.result ≡ get_or TABLE c.args.kind 0 = search rules in rw read (entry TABLE tt (omega arith) c.args.kind)

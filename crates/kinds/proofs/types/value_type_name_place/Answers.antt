@@ -1,15 +1,15 @@
--- `kinds::types::value_type_name_place` meets its contract: the places are right by one test over all ten.
+-- `kinds::types::value_type_name_place` meets its contract: the places are those of the names, one by one.
 -- Assumes nothing.
-use lib.ListN.{get_or-eq_default}
+use Rattle.std.proofs.Common.{◌≡◌, ◌∙◌, ap, get_or, map, refl, rules}
+use Rattle.std.proofs.Math.ListN.{get_or-map}
 use Rattle.kinds.specs.TypeWords.{type_names, type_name_place}
+use Rattle.kinds.specs.Listing.{place_of}
 use Rattle.kinds.specs.declared.types.TheConstants.{PLACES}
-use Rattle.kinds.proofs.Every.{entry}
 use Rattle.kinds.proofs.types.value_type_name_place.Goals as goal
 
-pub returns-then-number-lt10 : goal.returns-then-number-lt10
-unfolding type_name_place
-returns-then-number-lt10 c = entry 10 PLACES type_name_place tt c.args.number c.if-number-lt10.true
+places : PLACES ≡ map place_of type_names
+places = refl
 
-pub returns-else-number-lt10 : goal.returns-else-number-lt10
+pub returns : goal.returns
 unfolding type_name_place
-returns-else-number-lt10 c = rw (get_or-eq_default type_names "" c.if-number-lt10.false)
+returns c = let read : c.unwrap_or.result ≡ get_or PLACES c.args.number 0 = search rules in read ∙ ap (λ l. get_or l c.args.number 0) places ∙ get_or-map place_of type_names c.args.number ""

@@ -2,9 +2,10 @@
 -- Assumes nothing.
 use Rattle.listing.proofs.LineWays as ways
 use Rattle.listing.proofs.lines.put_found.Goals as goal
-
-pub returns-then-class-eq1 : goal.returns-then-class-eq1
-returns-then-class-eq1 c = ways.found-int _ _ _ c.if-class-eq1.true c.put_bytes-p.ensures c.put_field.ensures
+use Rattle.listing.proofs.lines.put_found.Goals.{then-class-eq-FAULTY_INT, else-class-eq-FAULTY_INT}
 
 pub returns : goal.returns
-returns c = ways.found-kind _ _ _ c.if-class-eq1.false c.put_field-2.ensures
+returns c = elim c.if-class-eq-FAULTY_INT.branch [
+  | then-class-eq-FAULTY_INT w ↦ ways.found-int _ _ _ w.if-class-eq-FAULTY_INT.true w.put_bytes.ensures (rw w.page-is at c.put_field.ensures)
+  | else-class-eq-FAULTY_INT w ↦ ways.found-kind _ _ _ w.if-class-eq-FAULTY_INT.false (rw w.page-is at c.put_field.ensures)
+]

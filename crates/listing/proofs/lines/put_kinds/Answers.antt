@@ -1,17 +1,20 @@
 -- `listing::lines::put_kinds` meets its contract. The invariant: what is left of the kinds from here gives what the whole gives.
 -- Assumes nothing.
-use Rattle.std.proofs.Common.{sym, ◌∙◌, refl}
+use Rattle.std.proofs.Common.{sym, ◌∙◌, arith, length, take, drop}
+use Rattle.std.proofs.lemmas.Iterator.{YieldsList-from_slice, YieldsList-from_take}
+use Rattle.std.proofs.lemmas.Iterator.Adapters.{YieldsList-from_skip}
+use Rattle.std.proofs.lemmas.Iterator.Consumers.{YieldsList-turn, YieldsList-end}
+use Rattle.std.proofs.lemmas.List.{length_push}
 use Rattle.listing.proofs.LineWays as ways
 use Rattle.listing.proofs.lines.put_kinds.Goals as goal
 
-pub loop-left-init : goal.loop-left-init
-loop-left-init c = refl
-
-pub returns-then-expected-at : goal.returns-then-expected-at
-returns-then-expected-at c = sym (c.loop-left.invariant ∙ ways.kinds-past c.args.expected.now c.loop-left.at c.loop-left.left _ c.if-expected-at.true)
-
-pub loop-left-preserved : goal.loop-left-preserved
-loop-left-preserved c = c.loop-left.invariant ∙ ways.kinds-on c.args.expected.now c.loop-left.at c.loop-left.left _ c.loop-left-test.true c.if-expected-at.false c.put_field-p.ensures
+pub loop-kind-preserved : goal.loop-kind-preserved
+loop-kind-preserved c =
+    let t = YieldsList-turn (YieldsList-from_take c.args.count (YieldsList-from_skip c.args.from (YieldsList-from_slice c.args.expected.now cc) cc) cc) c.loop-kind.yielded _ c.loop-kind.yielded_by _ _ c.in-Some.field-0 c.in-Some.is c.next.ensures.steps in
+    let n = length_push c.loop-kind.yielded c.in-Some.field-0 in
+    rw n (c.loop-kind.invariant ∙ ways.kinds-on _ _ _ c.in-Some.field-0.now t (rw c.from.ensures at c.put_field.ensures))
 
 pub returns : goal.returns
-returns c = sym (c.loop-left.invariant ∙ ways.kinds-end c.args.expected.now c.loop-left.at c.loop-left.left _ c.loop-left-test.false)
+returns c =
+    let t = YieldsList-end (YieldsList-from_take c.args.count (YieldsList-from_skip c.args.from (YieldsList-from_slice c.args.expected.now cc) cc) cc) c.loop-kind.yielded _ c.loop-kind.yielded_by _ _ c.in-None.is c.next.ensures.steps in
+    sym (c.loop-kind.invariant ∙ ways.kinds-end (take c.args.count (drop c.args.from c.args.expected.now)) (length c.loop-kind.yielded) _ (omega (arith, t.1)))

@@ -6,4 +6,4 @@ use Rattle.listing.proofs.list.lines.Goals as goal
 
 pub returns : goal.returns
 unfolding listing_of
-returns c = and_then _ _ _ c.first_line-p1.ensures (and_then _ _ _ c.node_lines-p2.ensures c.error_lines.ensures)
+returns c = and_then _ _ _ c.first_line.ensures (and_then _ _ _ c.node_lines.ensures c.error_lines.ensures)

@@ -1,10 +1,15 @@
--- `listing::list::listing` meets its contract.
+-- `listing::list::listing` meets its contract. The page still holds the buffer that was lent, so that the buffer ends as the page's.
 -- Assumes nothing.
+use Rattle.std.proofs.Common.{refl, rules}
 use Rattle.listing.proofs.Answered as ways
+use Rattle.listing.proofs.Pages.{same_buffer}
 use Rattle.listing.proofs.list.listing.Goals as goal
 
 pub returns-then-out-measured : goal.returns-then-out-measured
-returns-then-out-measured c = ways.no_room _ _ c.lines-measured.new.out _ c.lines-measured.auto.out c.lines-measured.ensures c.if-out-measured.true
+returns-then-out-measured c = ways.no_room _ _ _ c.lines.ensures refl refl c.if-out-measured.true
 
 pub returns : goal.returns
-returns c = ways.with-room _ _ c.lines-measured.new.out _ c.lines-measured.auto.out c.lines-measured.ensures c.if-out-measured.false c.lines-done.ensures
+returns c =
+    let same = same_buffer _ _ c.lines-2.ensures in
+    let bytes = ways.with-room _ _ _ c.lines.ensures refl refl _ c.if-out-measured.false c.lines-2.ensures refl refl refl in
+    search rules

@@ -1,19 +1,17 @@
 -- `listing::names::detail_place` meets its contract.
 -- Assumes nothing.
+use Rattle.std.proofs.Common.{arith}
 use Rattle.listing.proofs.Spelled as names
 use Rattle.listing.proofs.names.detail_place.Goals as goal
 
-pub returns-then-kind-eq-UNARY : goal.returns-then-kind-eq-UNARY
-returns-then-kind-eq-UNARY c = names.detail-unary _ _ _ c.if-kind-eq-UNARY.true c.unary_place.ensures
+pub returns-in-14 : goal.returns-in-14
+returns-in-14 c = names.detail-unary _ _ _ c.in-14.is c.unary_place.ensures
 
-pub returns-then-kind-eq-BINARY : goal.returns-then-kind-eq-BINARY
-returns-then-kind-eq-BINARY c = names.detail-binary _ _ _ c.if-kind-eq-BINARY.true c.name_place.ensures
+pub returns-in-15 : goal.returns-in-15
+returns-in-15 c = names.detail-operator _ _ _ c.in-15.is c.name_place.ensures
 
-pub returns-then-kind-eq-ASSIGN_OP : goal.returns-then-kind-eq-ASSIGN_OP
-returns-then-kind-eq-ASSIGN_OP c = names.detail-assign _ _ _ c.if-kind-eq-ASSIGN_OP.true c.name_place-then-kind-eq-ASSIGN_OP.ensures
+pub returns-in-16 : goal.returns-in-16
+returns-in-16 c = names.detail-type _ _ _ c.in-16.is c.value_type_name_place.ensures
 
-pub returns-then-kind-eq-TYPE_CHECK : goal.returns-then-kind-eq-TYPE_CHECK
-returns-then-kind-eq-TYPE_CHECK c = names.detail-type _ _ _ c.if-kind-eq-TYPE_CHECK.true c.value_type_name_place.ensures
-
-pub returns : goal.returns
-returns c = names.detail-none _ _ c.if-kind-eq-UNARY.false c.if-kind-eq-BINARY.false c.if-kind-eq-ASSIGN_OP.false c.if-kind-eq-TYPE_CHECK.false
+pub returns-in_default : goal.returns-in_default
+returns-in_default c = names.detail-none _ _ (λ e. absurd (omega arith)) (grind arith) (grind arith) (λ e. absurd (omega arith))

@@ -7,11 +7,5 @@ use Rattle.listing.proofs.walk.node_lines.Goals as goal
 pub returns-then-left-eq0 : goal.returns-then-left-eq0
 returns-then-left-eq0 c = ways.tree-none _ _ c.within-left.ensures _ c.if-left-eq0.true
 
-pub overflow_sub-root : goal.overflow_sub-root
-overflow_sub-root c = omega (arith, c.within-left.ensures)
-
-pub overflow_sub-left : goal.overflow_sub-left
-overflow_sub-left c = omega (arith, c.within-left.ensures)
-
 pub returns : goal.returns
-returns c = ways.tree-lines _ _ c.within-left.ensures _ _ (omega arith) (ways.as-word _ _ 3 c.word_at-first.ensures) (ways.read-line _ _ _ _ c.label_at.ensures c.node_line-line.ensures) c.walk-walked.ensures.0
+returns c = ways.tree-lines _ _ c.within-left.ensures _ _ (omega arith) (ways.as-word _ _ 3 c.word_at.ensures) (ways.read-line _ _ _ _ c.label_at.ensures c.node_line.ensures) c.walk.ensures.lines

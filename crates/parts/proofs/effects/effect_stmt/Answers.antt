@@ -1,19 +1,20 @@
--- `effect_stmt` meets its contract: each step may fail, and the last one builds the records.
+-- each step may fail, and the last one builds the records
 use Rattle.std.proofs.Common.{sym, ◌∙◌}
 use Rattle.parts.proofs.EffectPaths as paths
+use Rattle.cursor.proofs.Exits.{exits}
 use Rattle.parts.proofs.effects.effect_stmt.Goals as goal
 
-pub returns-in-Failed : goal.returns-in-Failed
-returns-in-Failed c = λ e x. sym (paths.stmt-shut _ _ _ _ _ _ c.start_range-inside.ensures (sym (c.in-Failed.ensures _ _ _ _)))
+pub returns-in_err-expect-clause-ended : goal.returns-in_err-expect-clause-ended
+returns-in_err-expect-clause-ended c = exits c.expect.new.self _ _ c.from_residual.ensures (sym (paths.stmt-shut _ _ _ _ _ _ c.start_range-inside.ensures (sym c.in_err-expect.ensures.ended)))
 
-pub returns-in-Failed-named : goal.returns-in-Failed-named
-returns-in-Failed-named c = λ e x. sym (paths.stmt-nameless _ _ _ _ _ _ c.start_range-inside.ensures (sym (c.in-On.ensures _ _ _ _)) (sym (c.in-Failed-named.ensures _ _ _)))
+pub returns-in_err-name-clause-ended : goal.returns-in_err-name-clause-ended
+returns-in_err-name-clause-ended c = exits c.ident.new.p _ _ c.from_residual-in_err-name.ensures (sym (paths.stmt-nameless _ _ _ _ _ _ c.start_range-inside.ensures (sym c.in_ok-expect.ensures.ended) (sym c.in_err-name.ensures.ended)))
 
-pub returns-in-Failed-listed : goal.returns-in-Failed-listed
-returns-in-Failed-listed c = λ e x. sym (paths.stmt-failed _ _ _ _ _ _ c.start_range-inside.ensures (sym (c.in-On.ensures _ _ _ _)) (sym (c.in-Node.ensures _ _ _)) (sym (c.in-Failed-listed.ensures _ _)))
+pub returns-in_err-items-clause-ended : goal.returns-in_err-items-clause-ended
+returns-in_err-items-clause-ended c = exits c.params.new.p _ _ c.from_residual-in_err-items.ensures (sym (paths.stmt-failed _ _ _ _ _ _ c.start_range-inside.ensures (sym c.in_ok-expect.ensures.ended) (sym c.in_ok-name.ensures.ended) (sym c.in_err-items.ensures.ended)))
 
-pub returns-in-Node-returned : goal.returns-in-Node-returned
-returns-in-Node-returned c = λ e x. c.effect_record.ensures _ _ _ ∙ sym (paths.stmt-on _ _ _ _ _ _ c.start_range-inside.ensures (sym (c.in-On.ensures _ _ _ _)) (sym (c.in-Node.ensures _ _ _)) (sym (c.in-Row.ensures _ _)) (sym (c.in-Node-returned.ensures _ _)))
+pub returns-in_err-link-clause-ended : goal.returns-in_err-link-clause-ended
+returns-in_err-link-clause-ended c = exits c.returns.new.p _ _ c.from_residual-in_err-link.ensures (sym (paths.stmt-lost _ _ _ _ _ _ c.start_range-inside.ensures (sym c.in_ok-expect.ensures.ended) (sym c.in_ok-name.ensures.ended) (sym c.in_ok-items.ensures.ended) (sym c.in_err-link.ensures.ended)))
 
-pub returns-in-Failed-returned : goal.returns-in-Failed-returned
-returns-in-Failed-returned c = λ e x. sym (paths.stmt-lost _ _ _ _ _ _ c.start_range-inside.ensures (sym (c.in-On.ensures _ _ _ _)) (sym (c.in-Node.ensures _ _ _)) (sym (c.in-Row.ensures _ _)) (sym (c.in-Failed-returned.ensures _ _)))
+pub returns-clause-ended : goal.returns-clause-ended
+returns-clause-ended c = c.effect_record.ensures.ended ∙ sym (paths.stmt-on _ _ _ _ _ _ c.start_range-inside.ensures (sym c.in_ok-expect.ensures.ended) (sym c.in_ok-name.ensures.ended) (sym c.in_ok-items.ensures.ended) (sym c.in_ok-link.ensures.ended))

@@ -1,19 +1,20 @@
--- `import_item` meets its contract: a way for each end of each step.
+-- a way for each end of each step
 use Rattle.std.proofs.Common.{sym, ◌∙◌}
 use Rattle.parts.proofs.ImportPaths as paths
+use Rattle.cursor.proofs.Exits.{exits}
 use Rattle.parts.proofs.imports.import_item.Goals as goal
 
-pub returns-in-Failed : goal.returns-in-Failed
-returns-in-Failed c = λ y e x. sym (paths.item-failed _ _ _ c.start_range-from.ensures (sym (c.in-Failed.ensures _ _ _)))
+pub returns-in_err-name-clause-ended : goal.returns-in_err-name-clause-ended
+returns-in_err-name-clause-ended c = exits c.ident.new.p _ _ c.from_residual.ensures (sym (paths.item-failed _ _ _ c.start_range-from.ensures (sym c.in_err-name.ensures.ended)))
 
-pub returns-in-No : goal.returns-in-No
-returns-in-No c = λ y e x. c.close.ensures _ _ _ ∙ sym (paths.item-plain _ _ _ c.start_range-from.ensures (sym (c.in-Node.ensures _ _ _)) (sym (c.in-No.ensures _ _ _ _)))
+pub returns-in_err-eat-clause-ended : goal.returns-in_err-eat-clause-ended
+returns-in_err-eat-clause-ended c = exits c.eat.new.self _ _ c.from_residual-in_err-eat.ensures (sym (paths.item-full _ _ _ c.start_range-from.ensures (sym c.in_ok-name.ensures.ended) (sym c.in_err-eat.ensures.ended)))
 
-pub returns-in-Failed-other : goal.returns-in-Failed-other
-returns-in-Failed-other c = λ y e x. sym (paths.item-full _ _ _ c.start_range-from.ensures (sym (c.in-Node.ensures _ _ _)) (sym (c.in-Failed-other.ensures _ _ _ _)))
+pub returns-then-not-branch-clause-ended : goal.returns-then-not-branch-clause-ended
+returns-then-not-branch-clause-ended c = c.close.ensures.ended ∙ sym (paths.item-plain _ _ _ c.start_range-from.ensures (sym c.in_ok-name.ensures.ended) (sym (rw c.if-not-branch.true at c.in_ok-eat.ensures.ended)))
 
-pub returns-in-Node-alias : goal.returns-in-Node-alias
-returns-in-Node-alias c = λ y e x. c.close-in-Node-alias.ensures _ _ _ ∙ sym (paths.item-alias _ _ _ c.start_range-from.ensures (sym (c.in-Node.ensures _ _ _)) (sym (c.in-Yes.ensures _ _ _ _)) (sym (c.in-Node-alias.ensures _ _ _)) (c.add-one.ensures _ _ _ _) (c.add-two.ensures _ _ _ _) c.flagged-flags.ensures)
+pub returns-in_err-alias-clause-ended : goal.returns-in_err-alias-clause-ended
+returns-in_err-alias-clause-ended c = exits c.ident-2.new.p _ _ c.from_residual-in_err-alias.ensures (sym (paths.item-lost _ _ _ c.start_range-from.ensures (sym c.in_ok-name.ensures.ended) (sym (rw c.if-not-branch.false at c.in_ok-eat.ensures.ended)) (sym c.in_err-alias.ensures.ended)))
 
-pub returns-in-Failed-alias : goal.returns-in-Failed-alias
-returns-in-Failed-alias c = λ y e x. sym (paths.item-lost _ _ _ c.start_range-from.ensures (sym (c.in-Node.ensures _ _ _)) (sym (c.in-Yes.ensures _ _ _ _)) (sym (c.in-Failed-alias.ensures _ _ _)))
+pub returns-clause-ended : goal.returns-clause-ended
+returns-clause-ended c = c.close-2.ensures.ended ∙ sym (paths.item-alias _ _ _ c.start_range-from.ensures (sym c.in_ok-name.ensures.ended) (sym (rw c.if-not-branch.false at c.in_ok-eat.ensures.ended)) (sym c.in_ok-alias.ensures.ended) c.add-one.ensures.ended c.add-two.ensures.ended c.flagged-flags.ensures)

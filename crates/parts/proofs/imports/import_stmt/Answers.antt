@@ -1,22 +1,22 @@
--- `import_stmt` meets its contract.
-use Rattle.std.proofs.Common.{sym, ◌∙◌, []}
+-- a turn of its loop is a turn of the path
+use Rattle.std.proofs.Common.{rules, sym, ◌∙◌}
 use Rattle.parts.proofs.ImportPaths as paths
 use Rattle.parts.proofs.ImportTakes.{path-takes}
 use Rattle.cursor.proofs.Loops as loops
-use Rattle.cursor.specs.Sheet.{sheet}
+use Rattle.cursor.proofs.Exits.{exits}
 use Rattle.parts.proofs.imports.import_stmt.Goals as goal
 
-pub returns-in-Failed : goal.returns-in-Failed
-returns-in-Failed c = λ y e x. sym (paths.import-spent _ _ _ _ (sym (c.in-Failed.ensures _ _)))
+pub returns-in_err-bump-clause-ended : goal.returns-in_err-bump-clause-ended
+returns-in_err-bump-clause-ended c = exits c.bump.new.self _ _ c.from_residual.ensures (sym (paths.import-spent _ _ _ _ (sym c.in_err-bump.ensures.ended)))
 
-pub loop-u-smaller : goal.loop-u-smaller
-loop-u-smaller c = loops.loop-less (sheet [] _ _) _ (path-takes _) (sym (c.in-More.ensures [] [] []))
+pub returns-in_err-longer-clause-ended : goal.returns-in_err-longer-clause-ended
+returns-in_err-longer-clause-ended c = exits c.path.new.p _ _ c.from_residual-in_err-longer.ensures (sym (paths.import-failed _ _ _ _ (sym c.in_ok-bump.ensures.ended) (c.loop-longer.invariant.rest ∙ loops.loop-failed _ _ (sym c.in_err-longer.ensures.ended))))
 
-pub loop-u-preserved : goal.loop-u-preserved
-loop-u-preserved c = λ y e x. c.loop-u.invariant y e x ∙ loops.loop-more _ _ (path-takes _) (sym (c.in-More.ensures _ _ _))
+pub loop-longer-smaller : goal.loop-longer-smaller
+loop-longer-smaller c = loops.loop-less _ _ (path-takes _) (sym (rw c.in-Continue.is at c.in_ok-longer.ensures.ended))
 
-pub returns-in-Done : goal.returns-in-Done
-returns-in-Done c = λ y e x. c.close.ensures _ _ _ ∙ sym (paths.import-on _ _ _ _ (sym (c.in-On.ensures _ _)) (c.loop-u.invariant y e x ∙ loops.loop-stop _ _ (sym (c.in-Done.ensures _ _ _))) c.flagged-flags.ensures)
+pub loop-longer-preserved : goal.loop-longer-preserved
+loop-longer-preserved c = record { rest = c.loop-longer.invariant.rest ∙ loops.loop-more _ _ (path-takes _) (sym (rw c.in-Continue.is at c.in_ok-longer.ensures.ended)); lent = search rules }
 
-pub returns-in-Failed-gone : goal.returns-in-Failed-gone
-returns-in-Failed-gone c = λ y e x. sym (paths.import-failed _ _ _ _ (sym (c.in-On.ensures _ _)) (c.loop-u.invariant y e x ∙ loops.loop-failed _ _ (sym (c.in-Failed-gone.ensures _ _ _))))
+pub returns-in-Break-clause-ended : goal.returns-in-Break-clause-ended
+returns-in-Break-clause-ended c = c.close.ensures.ended ∙ sym (paths.import-on _ _ _ _ (sym c.in_ok-bump.ensures.ended) (c.loop-longer.invariant.rest ∙ loops.loop-stop _ _ (sym (rw c.in-Break.is at c.in_ok-longer.ensures.ended))) c.flagged-flags.ensures)

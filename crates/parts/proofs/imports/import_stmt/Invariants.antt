@@ -1,13 +1,17 @@
-use Rattle.std.proofs.Common.{ℕ, List, ◌≡◌, ◌-◌}
-use Rattle.cursor.specs.Sheet.{sheet, count}
-use Rattle.cursor.specs.Rule.{world, iterate}
+use Rattle.std.proofs.Common.{◌≡◌, ◌-◌}
+use Rattle.cursor.specs.Sheet.{count}
+use Rattle.cursor.specs.Rule.{iterate}
+use Rattle.cursor.specs.Answers.{sheet_of, run, SameErrors}
 use Rattle.parts.specs.Answers.{on_path}
 use Rattle.parts.specs.Imports.{path_turn}
 use Rattle.parts.proofs.imports.import_stmt.Given as goal
 
--- going on from here gives what going on from the loop's start gives
-abbrev pub invariant-loop-u : goal.invariant-loop-u
-invariant-loop-u l = (y e x : List ℕ) → iterate (sheet y l.tokens l.limits) (path_turn (sheet y l.tokens l.limits)) (on_path l.initial.kids) l.initial.t (world l.initial.nodes e x l.initial.live) ≡ iterate (sheet y l.tokens l.limits) (path_turn (sheet y l.tokens l.limits)) (on_path l.kids) l.t (world l.nodes e x l.live)
+-- going on from here gives what going on from the start gives
+abbrev pub invariant-loop-longer : goal.invariant-loop-longer
+invariant-loop-longer l = record {
+  rest : run (iterate (sheet_of l.sheet) (path_turn (sheet_of l.sheet)) (on_path l.initial.kids)) l.initial.p ≡ run (iterate (sheet_of l.sheet) (path_turn (sheet_of l.sheet)) (on_path l.kids)) l.p;
+  lent : SameErrors l.initial.p l.p;
+}
 
-abbrev pub decreases-loop-u : goal.decreases-loop-u
-decreases-loop-u l = count l.tokens - l.t.at
+abbrev pub decreases-loop-longer : goal.decreases-loop-longer
+decreases-loop-longer l = count l.sheet.tokens.now - l.p.state.at

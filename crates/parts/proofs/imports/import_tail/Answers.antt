@@ -1,23 +1,27 @@
--- `import_tail` meets its contract: a way for each end of each step.
-use Rattle.std.proofs.Common.{sym}
+-- a way for each end of each step
+use Rattle.std.proofs.Common.{sym, arith}
 use Rattle.parts.proofs.ImportPaths as paths
-use Rattle.cursor.proofs.Failures.{erring}
+use Rattle.types.proofs.TurnExits.{turn-exits}
+use Rattle.parts.specs.Answers.{on_path}
 use Rattle.parts.proofs.imports.import_tail.Goals as goal
 
-pub returns-in-Failed : goal.returns-in-Failed
-returns-in-Failed c = λ y e x. sym (paths.tail-full _ _ _ _ (sym (c.in-Failed.ensures _ _ _ _ _)))
+pub returns-in_err-pick-clause-ended : goal.returns-in_err-pick-clause-ended
+returns-in_err-pick-clause-ended c = turn-exits on_path (λ i. i) c.pick.new.self _ _ c.from_residual.ensures (sym (paths.tail-full _ _ _ _ (sym c.in_err-pick.ensures.ended)))
 
-pub returns-then-which-gt1 : goal.returns-then-which-gt1
-returns-then-which-gt1 c = λ y e x. erring (c.unexpected.ensures _ _) (paths.tail-other _ _ _ _ (sym (c.in-Case.ensures _ _ _ _ _)) c.if-which-gt1.true)
+pub returns-in_err-bump-in-0-clause-ended : goal.returns-in_err-bump-in-0-clause-ended
+returns-in_err-bump-in-0-clause-ended c = turn-exits on_path (λ i. i) c.bump.new.self _ _ c.from_residual-in_err-bump-in-0.ensures (sym (paths.tail-spent _ _ _ _ (sym c.in_ok-pick.ensures.ended) (omega arith) (sym c.in_err-bump-in-0.ensures.ended)))
 
-pub returns-in-Failed-taken : goal.returns-in-Failed-taken
-returns-in-Failed-taken c = λ y e x. sym (paths.tail-spent _ _ _ _ (sym (c.in-Case.ensures _ _ _ _ _)) c.if-which-gt1.false (sym (c.in-Failed-taken.ensures _ _)))
+pub returns-in_err-items-in-0-clause-ended : goal.returns-in_err-items-in-0-clause-ended
+returns-in_err-items-in-0-clause-ended c = turn-exits on_path (λ i. i) c.import_items.new.p _ _ c.from_residual-in_err-items-in-0.ensures (sym (paths.tail-failed _ _ _ _ (sym c.in_ok-pick.ensures.ended) (omega arith) (sym c.in_ok-bump-in-0.ensures.ended) (omega arith) (sym c.in_err-items-in-0.ensures.ended)))
 
-pub returns-then-which-eq1 : goal.returns-then-which-eq1
-returns-then-which-eq1 c = λ y e x. sym (paths.tail-glob _ _ _ _ (sym (c.in-Case.ensures _ _ _ _ _)) c.if-which-gt1.false (sym (c.in-On.ensures _ _)) c.if-which-eq1.true)
+pub returns-in_ok-items-in-0-clause-ended : goal.returns-in_ok-items-in-0-clause-ended
+returns-in_ok-items-in-0-clause-ended c = sym (paths.tail-items _ _ _ _ (sym c.in_ok-pick.ensures.ended) (omega arith) (sym c.in_ok-bump-in-0.ensures.ended) (omega arith) (sym c.in_ok-items-in-0.ensures.ended))
 
-pub returns-in-Row : goal.returns-in-Row
-returns-in-Row c = λ y e x. sym (paths.tail-items _ _ _ _ (sym (c.in-Case.ensures _ _ _ _ _)) c.if-which-gt1.false (sym (c.in-On.ensures _ _)) c.if-which-eq1.false (sym (c.in-Row.ensures _ _ _)))
+pub returns-in_err-bump-in-1-clause-ended : goal.returns-in_err-bump-in-1-clause-ended
+returns-in_err-bump-in-1-clause-ended c = turn-exits on_path (λ i. i) c.bump-in-1.new.self _ _ c.from_residual-in_err-bump-in-1.ensures (sym (paths.tail-spent _ _ _ _ (sym c.in_ok-pick.ensures.ended) (omega arith) (sym c.in_err-bump-in-1.ensures.ended)))
 
-pub returns-in-Failed-listed : goal.returns-in-Failed-listed
-returns-in-Failed-listed c = λ y e x. sym (paths.tail-failed _ _ _ _ (sym (c.in-Case.ensures _ _ _ _ _)) c.if-which-gt1.false (sym (c.in-On.ensures _ _)) c.if-which-eq1.false (sym (c.in-Failed-listed.ensures _ _ _)))
+pub returns-in_ok-bump-in-1-clause-ended : goal.returns-in_ok-bump-in-1-clause-ended
+returns-in_ok-bump-in-1-clause-ended c = sym (paths.tail-glob _ _ _ _ (sym c.in_ok-pick.ensures.ended) (omega arith) (sym c.in_ok-bump-in-1.ensures.ended) c.in-1.is)
+
+pub returns-in_default-clause-ended : goal.returns-in_default-clause-ended
+returns-in_default-clause-ended c = rw c.unexpected.ensures (sym (paths.tail-other _ _ _ _ (sym c.in_ok-pick.ensures.ended) (omega arith)))

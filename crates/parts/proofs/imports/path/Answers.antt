@@ -1,22 +1,24 @@
--- `path` meets its contract: a way for each end of each step.
+-- a way for each end of each step
 use Rattle.std.proofs.Common.{sym, ◌∙◌}
 use Rattle.parts.proofs.ImportPaths as paths
+use Rattle.types.proofs.TurnExits.{turn-exits}
+use Rattle.parts.specs.Answers.{on_path}
 use Rattle.parts.proofs.imports.path.Goals as goal
 
-pub returns-in-Failed : goal.returns-in-Failed
-returns-in-Failed c = λ y e x. sym (paths.path-failed _ _ _ _ (sym (c.in-Failed.ensures _ _ _)))
+pub returns-in_err-name-clause-ended : goal.returns-in_err-name-clause-ended
+returns-in_err-name-clause-ended c = turn-exits on_path (λ i. i) c.ident.new.p _ _ c.from_residual.ensures (sym (paths.path-failed _ _ _ _ (sym c.in_err-name.ensures.ended)))
 
-pub returns-in-No : goal.returns-in-No
-returns-in-No c = λ y e x. c.import_end.ensures _ _ _ ∙ sym (paths.path-end _ _ _ _ (sym (c.in-Node.ensures _ _ _)) (c.add-longer.ensures _ _ _ _) (sym (c.in-No.ensures _ _ _ _)))
+pub returns-in_err-eat-clause-ended : goal.returns-in_err-eat-clause-ended
+returns-in_err-eat-clause-ended c = turn-exits on_path (λ i. i) c.eat.new.self _ _ c.from_residual-in_err-eat.ensures (sym (paths.path-full _ _ _ _ (sym c.in_ok-name.ensures.ended) c.add-longer.ensures.ended (sym c.in_err-eat.ensures.ended)))
 
-pub returns-in-Failed-deeper : goal.returns-in-Failed-deeper
-returns-in-Failed-deeper c = λ y e x. sym (paths.path-full _ _ _ _ (sym (c.in-Node.ensures _ _ _)) (c.add-longer.ensures _ _ _ _) (sym (c.in-Failed-deeper.ensures _ _ _ _)))
+pub returns-then-not-branch-clause-ended : goal.returns-then-not-branch-clause-ended
+returns-then-not-branch-clause-ended c = c.import_end.ensures.ended ∙ sym (paths.path-end _ _ _ _ (sym c.in_ok-name.ensures.ended) c.add-longer.ensures.ended (sym (rw c.if-not-branch.true at c.in_ok-eat.ensures.ended)))
 
-pub returns-in-Yes-another : goal.returns-in-Yes-another
-returns-in-Yes-another c = λ y e x. sym (paths.path-more _ _ _ _ (sym (c.in-Node.ensures _ _ _)) (c.add-longer.ensures _ _ _ _) (sym (c.in-Yes.ensures _ _ _ _)) (sym (c.in-Yes-another.ensures _ _ _ _ _)))
+pub returns-in_err-check-clause-ended : goal.returns-in_err-check-clause-ended
+returns-in_err-check-clause-ended c = turn-exits on_path (λ i. i) c.check.new.self _ _ c.from_residual-in_err-check.ensures (sym (paths.path-lost _ _ _ _ (sym c.in_ok-name.ensures.ended) c.add-longer.ensures.ended (sym (rw c.if-not-branch.false at c.in_ok-eat.ensures.ended)) (sym c.in_err-check.ensures.ended)))
 
-pub returns-in-No-another : goal.returns-in-No-another
-returns-in-No-another c = λ y e x. c.import_tail.ensures _ _ _ ∙ sym (paths.path-tail _ _ _ _ (sym (c.in-Node.ensures _ _ _)) (c.add-longer.ensures _ _ _ _) (sym (c.in-Yes.ensures _ _ _ _)) (sym (c.in-No-another.ensures _ _ _ _ _)))
+pub returns-then-branch-clause-ended : goal.returns-then-branch-clause-ended
+returns-then-branch-clause-ended c = sym (paths.path-more _ _ _ _ (sym c.in_ok-name.ensures.ended) c.add-longer.ensures.ended (sym (rw c.if-not-branch.false at c.in_ok-eat.ensures.ended)) (sym (rw c.if-branch.true at c.in_ok-check.ensures.ended)))
 
-pub returns-in-Failed-another : goal.returns-in-Failed-another
-returns-in-Failed-another c = λ y e x. sym (paths.path-lost _ _ _ _ (sym (c.in-Node.ensures _ _ _)) (c.add-longer.ensures _ _ _ _) (sym (c.in-Yes.ensures _ _ _ _)) (sym (c.in-Failed-another.ensures _ _ _ _ _)))
+pub returns-clause-ended : goal.returns-clause-ended
+returns-clause-ended c = c.import_tail.ensures.ended ∙ sym (paths.path-tail _ _ _ _ (sym c.in_ok-name.ensures.ended) c.add-longer.ensures.ended (sym (rw c.if-not-branch.false at c.in_ok-eat.ensures.ended)) (sym (rw c.if-branch.false at c.in_ok-check.ensures.ended)))

@@ -1,23 +1,22 @@
--- `skip` meets its contract.
-use Rattle.std.proofs.Common.{sym, ◌∙◌, []}
+-- a turn of its loop is a turn of the rule
+use Rattle.std.proofs.Common.{rules, sym, ◌∙◌}
 use Rattle.parts.proofs.RecoveryPaths as paths
 use Rattle.parts.proofs.SkipTakes.{skip-takes}
 use Rattle.cursor.proofs.Loops as loops
-use Rattle.cursor.specs.Sheet.{sheet}
-use Rattle.cursor.specs.Rule.{world}
+use Rattle.cursor.proofs.Exits.{exits}
 use Rattle.parts.proofs.recovery.skip.Goals as goal
 
-pub returns-in-Failed : goal.returns-in-Failed
-returns-in-Failed c = λ y n e x. sym (paths.skip_is _ _ _ _ ∙ c.loop-u.invariant y n e x ∙ loops.loop-failed _ _ (paths.skip-full _ _ _ _ (sym (c.in-Failed.ensures _ _ _ _ _))))
+pub returns-in_err-pick-clause-ended : goal.returns-in_err-pick-clause-ended
+returns-in_err-pick-clause-ended c = exits c.pick.new.self _ _ c.from_residual.ensures (sym (paths.skip_is _ _ _ _ ∙ c.loop-p.invariant.rest ∙ loops.loop-failed _ _ (paths.skip-full _ _ _ _ (sym c.in_err-pick.ensures.ended))))
 
-pub returns-then-which-lt3 : goal.returns-then-which-lt3
-returns-then-which-lt3 c = λ y n e x. sym (paths.skip_is _ _ _ _ ∙ c.loop-u.invariant y n e x ∙ loops.loop-stop _ _ (paths.skip-here _ _ _ _ (sym (c.in-Case.ensures _ _ _ _ _)) c.if-which-lt3.true))
+pub returns-then-branch-lt3-clause-ended : goal.returns-then-branch-lt3-clause-ended
+returns-then-branch-lt3-clause-ended c = sym (paths.skip_is _ _ _ _ ∙ c.loop-p.invariant.rest ∙ loops.loop-stop _ _ (paths.skip-here _ _ _ _ (sym c.in_ok-pick.ensures.ended) c.if-branch-lt3.true))
 
-pub loop-u-smaller : goal.loop-u-smaller
-loop-u-smaller c = loops.loop-less (sheet [] _ _) _ (skip-takes _ _) (paths.skip-more _ _ _ (world [] [] [] _) (sym (c.in-Case.ensures _ _ _ _ _)) c.if-which-lt3.false (sym (c.in-On.ensures _ _)))
+pub loop-p-smaller : goal.loop-p-smaller
+loop-p-smaller c = loops.loop-less _ _ (skip-takes _ _) (paths.skip-more _ _ _ _ (sym c.in_ok-pick.ensures.ended) c.if-branch-lt3.false (sym c.in_ok-bump.ensures.ended))
 
-pub loop-u-preserved : goal.loop-u-preserved
-loop-u-preserved c = λ y n e x. c.loop-u.invariant y n e x ∙ loops.loop-more _ _ (skip-takes _ _) (paths.skip-more _ _ _ _ (sym (c.in-Case.ensures _ _ _ _ _)) c.if-which-lt3.false (sym (c.in-On.ensures _ _)))
+pub loop-p-preserved : goal.loop-p-preserved
+loop-p-preserved c = record { rest = c.loop-p.invariant.rest ∙ loops.loop-more _ _ (skip-takes _ _) (paths.skip-more _ _ _ _ (sym c.in_ok-pick.ensures.ended) c.if-branch-lt3.false (sym c.in_ok-bump.ensures.ended)); lent = search rules }
 
-pub returns-in-Failed-taken : goal.returns-in-Failed-taken
-returns-in-Failed-taken c = λ y n e x. sym (paths.skip_is _ _ _ _ ∙ c.loop-u.invariant y n e x ∙ loops.loop-failed _ _ (paths.skip-spent _ _ _ _ (sym (c.in-Case.ensures _ _ _ _ _)) c.if-which-lt3.false (sym (c.in-Failed-taken.ensures _ _))))
+pub returns-in_err-bump-clause-ended : goal.returns-in_err-bump-clause-ended
+returns-in_err-bump-clause-ended c = exits c.bump.new.self _ _ c.from_residual-in_err-bump.ensures (sym (paths.skip_is _ _ _ _ ∙ c.loop-p.invariant.rest ∙ loops.loop-failed _ _ (paths.skip-spent _ _ _ _ (sym c.in_ok-pick.ensures.ended) c.if-branch-lt3.false (sym c.in_err-bump.ensures.ended))))

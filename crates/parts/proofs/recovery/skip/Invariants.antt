@@ -1,12 +1,16 @@
-use Rattle.std.proofs.Common.{ℕ, List, ◌≡◌, ◌-◌}
-use Rattle.cursor.specs.Sheet.{sheet, count}
-use Rattle.cursor.specs.Rule.{world, iterate}
+use Rattle.std.proofs.Common.{◌≡◌, ◌-◌}
+use Rattle.cursor.specs.Sheet.{count}
+use Rattle.cursor.specs.Rule.{iterate}
+use Rattle.cursor.specs.Answers.{sheet_of, run, SameRecords}
 use Rattle.parts.specs.Recovery.{skip_turn}
 use Rattle.parts.proofs.recovery.skip.Given as goal
 
--- going on from here gives what going on from the loop's start gives
-abbrev pub invariant-loop-u : goal.invariant-loop-u
-invariant-loop-u l = (y n e x : List ℕ) → iterate (sheet y l.tokens l.limits) (skip_turn (sheet y l.tokens l.limits) l.end) tt l.initial.t (world n e x l.initial.live) ≡ iterate (sheet y l.tokens l.limits) (skip_turn (sheet y l.tokens l.limits) l.end) tt l.t (world n e x l.live)
+-- going on from here gives what going on from the start gives
+abbrev pub invariant-loop-p : goal.invariant-loop-p
+invariant-loop-p l = record {
+  rest : run (iterate (sheet_of l.sheet) (skip_turn (sheet_of l.sheet) l.end) tt) l.initial.p ≡ run (iterate (sheet_of l.sheet) (skip_turn (sheet_of l.sheet) l.end) tt) l.p;
+  lent : SameRecords l.initial.p l.p;
+}
 
-abbrev pub decreases-loop-u : goal.decreases-loop-u
-decreases-loop-u l = count l.tokens - l.t.at
+abbrev pub decreases-loop-p : goal.decreases-loop-p
+decreases-loop-p l = count l.sheet.tokens.now - l.p.state.at

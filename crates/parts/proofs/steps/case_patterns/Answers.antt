@@ -1,22 +1,22 @@
--- `case_patterns` meets its contract: a turn of its loop is a turn of the rule.
-use Rattle.std.proofs.Common.{sym, ◌∙◌, []}
+-- a turn of its loop is a turn of the rule
+use Rattle.std.proofs.Common.{rules, sym, ◌∙◌}
 use Rattle.parts.proofs.StepPaths as paths
 use Rattle.parts.proofs.StepTakes.{case-patterns-take}
 use Rattle.cursor.proofs.Loops as loops
-use Rattle.cursor.specs.Rule.{world}
+use Rattle.cursor.proofs.Exits.{exits}
 use Rattle.parts.proofs.steps.case_patterns.Goals as goal
 
-pub returns-in-Failed : goal.returns-in-Failed
-returns-in-Failed c = λ e x. sym (paths.case-is _ _ _ _ ∙ c.loop-u.invariant e x ∙ loops.loop-failed _ _ (paths.case-failed _ _ _ _ _ (sym (c.in-Failed.ensures _ _))))
+pub returns-in_err-link-clause-ended : goal.returns-in_err-link-clause-ended
+returns-in_err-link-clause-ended c = exits c.pattern.new.p _ _ c.from_residual.ensures (sym (paths.case-is _ _ _ _ ∙ c.loop-link.invariant.rest ∙ loops.loop-failed _ _ (paths.case-failed _ _ _ _ _ (sym c.in_err-link.ensures.ended))))
 
-pub loop-u-smaller : goal.loop-u-smaller
-loop-u-smaller c = loops.loop-less _ _ (case-patterns-take _ _) (paths.case-more _ _ (world _ [] [] _) _ _ (sym (c.in-Node.ensures _ _)) (c.add-kids.ensures _ _ _ _) (sym (c.in-Yes.ensures _ _ _ _)))
+pub returns-in_err-eat-clause-ended : goal.returns-in_err-eat-clause-ended
+returns-in_err-eat-clause-ended c = exits c.eat.new.self _ _ c.from_residual-in_err-eat.ensures (sym (paths.case-is _ _ _ _ ∙ c.loop-link.invariant.rest ∙ loops.loop-failed _ _ (paths.case_full _ _ _ _ _ (sym c.in_ok-link.ensures.ended) c.add-kids.ensures.ended (sym c.in_err-eat.ensures.ended))))
 
-pub loop-u-preserved : goal.loop-u-preserved
-loop-u-preserved c = λ e x. c.loop-u.invariant e x ∙ loops.loop-more _ _ (case-patterns-take _ _) (paths.case-more _ _ _ _ _ (sym (c.in-Node.ensures _ _)) (c.add-kids.ensures _ _ _ _) (sym (c.in-Yes.ensures _ _ _ _)))
+pub returns-then-not-branch-clause-ended : goal.returns-then-not-branch-clause-ended
+returns-then-not-branch-clause-ended c = sym (paths.case-is _ _ _ _ ∙ c.loop-link.invariant.rest ∙ loops.loop-stop _ _ (paths.case-stop _ _ _ _ _ (sym c.in_ok-link.ensures.ended) c.add-kids.ensures.ended (sym (rw c.if-not-branch.true at c.in_ok-eat.ensures.ended))))
 
-pub returns-in-No : goal.returns-in-No
-returns-in-No c = λ e x. sym (paths.case-is _ _ _ _ ∙ c.loop-u.invariant e x ∙ loops.loop-stop _ _ (paths.case-stop _ _ _ _ _ (sym (c.in-Node.ensures _ _)) (c.add-kids.ensures _ _ _ _) (sym (c.in-No.ensures _ _ _ _))))
+pub loop-link-smaller : goal.loop-link-smaller
+loop-link-smaller c = loops.loop-less _ _ (case-patterns-take _ _) (paths.case-more _ _ _ _ _ (sym c.in_ok-link.ensures.ended) c.add-kids.ensures.ended (sym (rw c.if-not-branch.false at c.in_ok-eat.ensures.ended)))
 
-pub returns-in-Failed-bar : goal.returns-in-Failed-bar
-returns-in-Failed-bar c = λ e x. sym (paths.case-is _ _ _ _ ∙ c.loop-u.invariant e x ∙ loops.loop-failed _ _ (paths.case_full _ _ _ _ _ (sym (c.in-Node.ensures _ _)) (c.add-kids.ensures _ _ _ _) (sym (c.in-Failed-bar.ensures _ _ _ _))))
+pub loop-link-preserved : goal.loop-link-preserved
+loop-link-preserved c = record { rest = c.loop-link.invariant.rest ∙ loops.loop-more _ _ (case-patterns-take _ _) (paths.case-more _ _ _ _ _ (sym c.in_ok-link.ensures.ended) c.add-kids.ensures.ended (sym (rw c.if-not-branch.false at c.in_ok-eat.ensures.ended))); lent = search rules }

@@ -1,13 +1,17 @@
-use Rattle.std.proofs.Common.{ℕ, List, ◌≡◌, ◌-◌}
-use Rattle.cursor.specs.Sheet.{sheet, count}
-use Rattle.cursor.specs.Rule.{world, iterate}
+use Rattle.std.proofs.Common.{◌≡◌, ◌-◌}
+use Rattle.cursor.specs.Sheet.{count}
+use Rattle.cursor.specs.Rule.{iterate}
+use Rattle.cursor.specs.Answers.{sheet_of, run, SameErrors}
 use Rattle.types.specs.Patterns.{patterns}
 use Rattle.parts.specs.Steps.{pattern_turn}
 use Rattle.parts.proofs.steps.case_patterns.Given as goal
 
--- going on from here gives what going on from the loop's start gives
-abbrev pub invariant-loop-u : goal.invariant-loop-u
-invariant-loop-u l = (e x : List ℕ) → iterate (sheet l.text l.tokens l.limits) (pattern_turn (sheet l.text l.tokens l.limits) (patterns (sheet l.text l.tokens l.limits) l.depth)) l.initial.kids l.initial.t (world l.initial.nodes e x l.initial.live) ≡ iterate (sheet l.text l.tokens l.limits) (pattern_turn (sheet l.text l.tokens l.limits) (patterns (sheet l.text l.tokens l.limits) l.depth)) l.kids l.t (world l.nodes e x l.live)
+-- going on from here gives what going on from the start gives
+abbrev pub invariant-loop-link : goal.invariant-loop-link
+invariant-loop-link l = record {
+  rest : run (iterate (sheet_of l.sheet) (pattern_turn (sheet_of l.sheet) (patterns (sheet_of l.sheet) l.depth)) l.initial.kids) l.initial.p ≡ run (iterate (sheet_of l.sheet) (pattern_turn (sheet_of l.sheet) (patterns (sheet_of l.sheet) l.depth)) l.kids) l.p;
+  lent : SameErrors l.initial.p l.p;
+}
 
-abbrev pub decreases-loop-u : goal.decreases-loop-u
-decreases-loop-u l = count l.tokens - l.t.at
+abbrev pub decreases-loop-link : goal.decreases-loop-link
+decreases-loop-link l = count l.sheet.tokens.now - l.p.state.at

@@ -1,12 +1,17 @@
-use Rattle.std.proofs.Common.{sym}
+use Rattle.std.proofs.Common.{sym, ap, arith}
+use Rattle.parts.specs.Forms.{opens}
 use Rattle.parts.proofs.StepPaths as paths
+use Rattle.cursor.proofs.Exits.{exits}
 use Rattle.parts.proofs.steps.meta_end.Goals as goal
 
-pub returns-then-which-gt0 : goal.returns-then-which-gt0
-returns-then-which-gt0 c = λ y n e x. sym (paths.meta-bare _ _ _ _ c.if-which-gt0.true)
+pub returns-in_err-expect-in-Bracket-clause-ended : goal.returns-in_err-expect-in-Bracket-clause-ended
+returns-in_err-expect-in-Bracket-clause-ended c = let p = ap opens c.in-Bracket.is in exits c.expect.new.self _ _ c.from_residual.ensures (sym (paths.meta-open _ _ _ _ (omega arith) (sym c.in_err-expect-in-Bracket.ensures.ended)))
 
-pub returns-in-On : goal.returns-in-On
-returns-in-On c = λ y n e x. sym (paths.meta-closed _ _ _ _ c.if-which-gt0.false (sym (c.in-On.ensures _ _ _ _)))
+pub returns-in_ok-expect-in-Bracket-clause-ended : goal.returns-in_ok-expect-in-Bracket-clause-ended
+returns-in_ok-expect-in-Bracket-clause-ended c = let p = ap opens c.in-Bracket.is in sym (paths.meta-closed _ _ _ _ (omega arith) (sym c.in_ok-expect-in-Bracket.ensures.ended))
 
-pub returns-in-Failed : goal.returns-in-Failed
-returns-in-Failed c = λ y n e x. sym (paths.meta-open _ _ _ _ c.if-which-gt0.false (sym (c.in-Failed.ensures _ _ _ _)))
+pub returns-in-Dot-clause-ended : goal.returns-in-Dot-clause-ended
+returns-in-Dot-clause-ended c = let p = ap opens c.in-Dot.is in sym (paths.meta-bare _ _ _ _ (omega arith))
+
+pub returns-in-DoubleColon-clause-ended : goal.returns-in-DoubleColon-clause-ended
+returns-in-DoubleColon-clause-ended c = let p = ap opens c.in-DoubleColon.is in sym (paths.meta-bare _ _ _ _ (omega arith))

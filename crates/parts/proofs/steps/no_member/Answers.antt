@@ -1,10 +1,10 @@
-use Rattle.std.proofs.Common.{sym}
+use Rattle.std.proofs.Common.{sym, ◌∙◌}
 use Rattle.parts.proofs.StepPaths as paths
-use Rattle.cursor.proofs.Failures.{erring}
+use Rattle.types.proofs.ItemPaths.{is-ended-is-some}
 use Rattle.parts.proofs.steps.no_member.Goals as goal
 
-pub returns-then-is_ended : goal.returns-then-is_ended
-returns-then-is_ended c = λ y l w. erring (c.unexpected.ensures _ _) (paths.member-lost _ _ _ _ _ c.is_ended.ensures c.if-is_ended.true)
+pub returns-then-is_some : goal.returns-then-is_some
+returns-then-is_some c = rw c.unexpected.ensures (sym (paths.member-lost _ _ _ _ _ (c.is_some.ensures ∙ is-ended-is-some _) c.if-is_some.true))
 
 pub returns : goal.returns
-returns c = λ y l w. sym (paths.member-stop _ _ _ _ _ c.is_ended.ensures c.if-is_ended.false)
+returns c = sym (paths.member-stop _ _ _ _ _ (c.is_some.ensures ∙ is-ended-is-some _) c.if-is_some.false)

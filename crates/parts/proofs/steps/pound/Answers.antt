@@ -1,16 +1,10 @@
--- `pound` meets its contract.
 use Rattle.std.proofs.Common.{sym, ◌∙◌}
 use Rattle.parts.proofs.StepPaths as paths
+use Rattle.cursor.proofs.Exits.{exits}
 use Rattle.parts.proofs.steps.pound.Goals as goal
 
-pub returns-in-Failed : goal.returns-in-Failed
-returns-in-Failed c = λ y n e x. sym (paths.pound-spent _ _ _ (sym (c.in-Failed.ensures _ _)))
+pub returns-in_err-bump-clause-ended : goal.returns-in_err-bump-clause-ended
+returns-in_err-bump-clause-ended c = exits c.bump.new.self _ _ c.from_residual.ensures (sym (paths.pound-spent _ _ _ (sym c.in_err-bump.ensures.ended)))
 
-pub returns-in-Yes : goal.returns-in-Yes
-returns-in-Yes c = λ y n e x. sym (paths.pound-is _ _ _ (sym (c.in-On.ensures _ _)) ∙ (sym (c.in-Yes.ensures _ _ _ _)))
-
-pub returns-in-No : goal.returns-in-No
-returns-in-No c = λ y n e x. sym (paths.pound-is _ _ _ (sym (c.in-On.ensures _ _)) ∙ (sym (c.in-No.ensures _ _ _ _)))
-
-pub returns-in-Failed-meta : goal.returns-in-Failed-meta
-returns-in-Failed-meta c = λ y n e x. sym (paths.pound-is _ _ _ (sym (c.in-On.ensures _ _)) ∙ (sym (c.in-Failed-meta.ensures _ _ _ _)))
+pub returns-clause-ended : goal.returns-clause-ended
+returns-clause-ended c = c.eat.ensures.ended ∙ sym (paths.pound-is _ _ _ (sym c.in_ok-bump.ensures.ended))

@@ -1,19 +1,19 @@
-use Rattle.std.proofs.Common.{sym}
+use Rattle.std.proofs.Common.{sym, ◌∙◌}
 use Rattle.parts.proofs.StepPaths as paths
-use Rattle.cursor.proofs.Failures.{erring}
+use Rattle.types.proofs.TurnExits.{turn-exits}
 use Rattle.parts.proofs.steps.type_check.Goals as goal
 
-pub returns-in-Nowhere : goal.returns-in-Nowhere
-returns-in-Nowhere c = λ e y l. erring (c.unexpected.ensures _ _) (paths.type-out _ _ _ _ _ (sym c.in-Nowhere.ensures))
+pub returns-in_default-clause-ended : goal.returns-in_default-clause-ended
+returns-in_default-clause-ended c = rw c.unexpected.ensures (sym (paths.type-out _ _ _ _ _ (sym c.current_range.ensures ∙ c.in_default.is)))
 
-pub returns-in_default : goal.returns-in_default
-returns-in_default c = λ e y l. erring (c.unexpected-in_default.ensures _ _) (paths.type-none _ _ _ _ _ (sym c.in-At.ensures) c.current_kind.ensures c.in_default.ensures)
+pub returns-in_default-checked_type-clause-ended : goal.returns-in_default-checked_type-clause-ended
+returns-in_default-checked_type-clause-ended c = rw c.unexpected-in_default-checked_type.ensures (sym (paths.type-none _ _ _ _ _ (sym c.in-Some.ensures) c.current_kind.ensures (sym c.in_default-checked_type.is ∙ c.checked_type.ensures)))
 
-pub returns-in-Failed : goal.returns-in-Failed
-returns-in-Failed c = λ e y l. sym (paths.type-spent _ _ _ _ _ (sym c.in-At.ensures) c.current_kind.ensures c.in-Type.ensures (sym (c.in-Failed.ensures _ _)))
+pub returns-in_err-bump-clause-ended : goal.returns-in_err-bump-clause-ended
+returns-in_err-bump-clause-ended c = turn-exits (λ a. a) (λ a. a) c.bump.new.self _ _ c.from_residual.ensures (sym (paths.type-spent _ _ _ _ _ (sym c.in-Some.ensures) c.current_kind.ensures c.in-Some-checked_type.ensures (sym c.in_err-bump.ensures.ended)))
 
-pub returns-in-Node : goal.returns-in-Node
-returns-in-Node c = λ e y l. sym (paths.type-on _ _ _ _ _ (sym c.in-At.ensures) c.current_kind.ensures c.in-Type.ensures (sym (c.in-On.ensures _ _)) c.link_of.ensures (sym (c.in-Node.ensures _ _ _)))
+pub returns-in_err-link-clause-ended : goal.returns-in_err-link-clause-ended
+returns-in_err-link-clause-ended c = turn-exits (λ a. a) (λ a. a) c.close.new.p _ _ c.from_residual-in_err-link.ensures (sym (paths.type-failed _ _ _ _ _ (sym c.in-Some.ensures) c.current_kind.ensures c.in-Some-checked_type.ensures (sym c.in_ok-bump.ensures.ended) c.link.ensures (sym c.in_err-link.ensures.ended)))
 
-pub returns-in-Failed-built : goal.returns-in-Failed-built
-returns-in-Failed-built c = λ e y l. sym (paths.type-failed _ _ _ _ _ (sym c.in-At.ensures) c.current_kind.ensures c.in-Type.ensures (sym (c.in-On.ensures _ _)) c.link_of.ensures (sym (c.in-Failed-built.ensures _ _ _)))
+pub returns-clause-ended : goal.returns-clause-ended
+returns-clause-ended c = sym (paths.type-on _ _ _ _ _ (sym c.in-Some.ensures) c.current_kind.ensures c.in-Some-checked_type.ensures (sym c.in_ok-bump.ensures.ended) c.link.ensures (sym c.in_ok-link.ensures.ended))

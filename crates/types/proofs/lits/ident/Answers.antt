@@ -1,13 +1,13 @@
 use Rattle.std.proofs.Common.{sym, ◌∙◌}
 use Rattle.types.proofs.LitPaths as paths
-use Rattle.cursor.proofs.Failures.{erring}
+use Rattle.cursor.proofs.Exits.{exits}
 use Rattle.types.proofs.lits.ident.Goals as goal
 
-pub returns-in-Nowhere : goal.returns-in-Nowhere
-returns-in-Nowhere c = λ t e x. erring (c.unexpected.ensures _ _) (paths.ident-out _ _ _ (sym c.in-Nowhere.ensures))
+pub returns-in_default-clause-ended : goal.returns-in_default-clause-ended
+returns-in_default-clause-ended c = rw c.unexpected.ensures (sym (paths.ident-out _ _ _ (sym c.current_range.ensures ∙ c.in_default.is)))
 
-pub returns-in-Failed : goal.returns-in-Failed
-returns-in-Failed c = λ t e x. sym (paths.ident-failed _ _ _ (sym c.in-At.ensures) (sym (c.in-Failed.ensures _ _ _ _)))
+pub returns-in_err-expect-clause-ended : goal.returns-in_err-expect-clause-ended
+returns-in_err-expect-clause-ended c = exits c.expect.new.self _ _ c.from_residual.ensures (sym (paths.ident-failed _ _ _ (sym c.in-Some.ensures) (sym c.in_err-expect.ensures.ended)))
 
-pub returns : goal.returns
-returns c = λ t e x. c.append.ensures _ _ _ ∙ sym (paths.ident-on _ _ _ (sym c.in-At.ensures) (sym (c.in-On.ensures _ _ _ _)))
+pub returns-clause-ended : goal.returns-clause-ended
+returns-clause-ended c = c.append.ensures.ended ∙ sym (paths.ident-on _ _ _ (sym c.in-Some.ensures) (sym c.in_ok-expect.ensures.ended))

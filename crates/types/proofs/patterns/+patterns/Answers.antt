@@ -1,84 +1,87 @@
 -- The cycle of the rules on patterns, as that of the types: ten for each level left, and the member's rank within one.
-use Rattle.std.proofs.Common.{sym, ◌∙◌, []}
+use Rattle.std.proofs.Common.{rules, sym, ◌∙◌, arith}
 use Rattle.types.proofs.PatternPaths as paths
 use Rattle.types.proofs.PatternKeeps as keeps
 use Rattle.types.proofs.ItemPaths as items
 use Rattle.cursor.proofs.Loops as loops
-use Rattle.cursor.specs.Rule.{world}
+use Rattle.cursor.proofs.Exits.{exits}
 use Rattle.types.specs.Items.{so}
 use Rattle.types.proofs.patterns.+patterns.Goals as goal
 
-pub pattern-returns-then-depth-eq0 : goal.pattern-returns-then-depth-eq0
-pattern-returns-then-depth-eq0 t c = λ e x. sym (paths.patterns-none _ _ _ _ c.if-depth-eq0.true)
+pub pattern-returns-then-depth-eq0-clause-ended : goal.pattern-returns-then-depth-eq0-clause-ended
+pattern-returns-then-depth-eq0-clause-ended t c = sym (paths.patterns-none _ _ _ _ c.if-depth-eq0.true)
 
-pub pattern-returns-in-Failed : goal.pattern-returns-in-Failed
-pattern-returns-in-Failed t c = λ e x. sym (paths.patterns-full _ _ _ c.start_range-from.ensures _ c.if-depth-eq0.false (sym (c.in-Failed.ensures _ _ _ _ _)))
+pub pattern-returns-in_err-pick-clause-ended : goal.pattern-returns-in_err-pick-clause-ended
+pattern-returns-in_err-pick-clause-ended t c = exits c.pick.new.self _ _ c.from_residual.ensures (sym (paths.patterns-full _ _ _ c.start_range-from.ensures _ c.if-depth-eq0.false (sym c.in_err-pick.ensures.ended)))
 
-pub pattern-returns-then-which-eq0 : goal.pattern-returns-then-which-eq0
-pattern-returns-then-which-eq0 t c = λ e x. c.ident.ensures _ _ _ ∙ sym (paths.patterns-on _ _ _ c.start_range-from.ensures _ c.if-depth-eq0.false (sym (c.in-Case.ensures _ _ _ _ _)) ∙ paths.by-ident _ _ _ _ _ _ c.if-which-eq0.true)
+pub pattern-returns-in-0-clause-ended : goal.pattern-returns-in-0-clause-ended
+pattern-returns-in-0-clause-ended t c = c.ident.ensures.ended ∙ sym (paths.patterns-on _ _ _ c.start_range-from.ensures _ c.if-depth-eq0.false (sym c.in_ok-pick.ensures.ended) ∙ paths.by-ident _ _ _ _ _ _ c.in-0.is)
 
-pub pattern-returns-then-which-eq1 : goal.pattern-returns-then-which-eq1
-pattern-returns-then-which-eq1 t c = λ e x. c.pattern_row.ensures _ _ ∙ sym (paths.patterns-on _ _ _ c.start_range-from.ensures _ c.if-depth-eq0.false (sym (c.in-Case.ensures _ _ _ _ _)) ∙ paths.by-table _ _ _ _ _ _ c.if-which-eq1.true)
+pub pattern-returns-in-1-clause-ended : goal.pattern-returns-in-1-clause-ended
+pattern-returns-in-1-clause-ended t c = c.pattern_row.ensures.ended ∙ sym (paths.patterns-on _ _ _ c.start_range-from.ensures _ c.if-depth-eq0.false (sym c.in_ok-pick.ensures.ended) ∙ paths.by-table _ _ _ _ _ _ c.in-1.is)
 
-pub pattern-returns-then-which-eq2 : goal.pattern-returns-then-which-eq2
-pattern-returns-then-which-eq2 t c = λ e x. c.pattern_row-then-which-eq2.ensures _ _ ∙ sym (paths.patterns-on _ _ _ c.start_range-from.ensures _ c.if-depth-eq0.false (sym (c.in-Case.ensures _ _ _ _ _)) ∙ paths.by-list _ _ _ _ _ _ c.if-which-eq2.true)
+pub pattern-returns-in-2-clause-ended : goal.pattern-returns-in-2-clause-ended
+pattern-returns-in-2-clause-ended t c = c.pattern_row-in-2.ensures.ended ∙ sym (paths.patterns-on _ _ _ c.start_range-from.ensures _ c.if-depth-eq0.false (sym c.in_ok-pick.ensures.ended) ∙ paths.by-list _ _ _ _ _ _ c.in-2.is)
 
-pub pattern-returns : goal.pattern-returns
-pattern-returns t c = λ e x. c.lit.ensures _ _ _ ∙ sym (paths.patterns-on _ _ _ c.start_range-from.ensures _ c.if-depth-eq0.false (sym (c.in-Case.ensures _ _ _ _ _)) ∙ paths.by-lit _ _ _ _ _ _ c.if-which-eq0.false c.if-which-eq1.false c.if-which-eq2.false)
+pub pattern-returns-in_default-clause-ended : goal.pattern-returns-in_default-clause-ended
+pattern-returns-in_default-clause-ended t c = c.lit.ensures.ended ∙ sym (paths.patterns-on _ _ _ c.start_range-from.ensures _ c.if-depth-eq0.false (sym c.in_ok-pick.ensures.ended) ∙ paths.by-lit _ _ _ _ _ _ (omega arith) (omega arith) (omega arith))
 
-pub pattern_item-returns-then-rule-eq-PAIRS : goal.pattern_item-returns-then-rule-eq-PAIRS
-pattern_item-returns-then-rule-eq-PAIRS t c = λ e x. c.table_pattern_pair.ensures _ _ ∙ sym (paths.item-pair _ _ _ _ _ c.if-rule-eq-PAIRS.true)
+pub pattern_item-returns-in-Pairs-clause-ended : goal.pattern_item-returns-in-Pairs-clause-ended
+pattern_item-returns-in-Pairs-clause-ended t c = c.table_pattern_pair.ensures.ended ∙ sym (paths.item-pair _ _ _ _ c.in-Pairs.is)
 
-pub pattern_item-returns : goal.pattern_item-returns
-pattern_item-returns t c = λ e x. c.pattern.ensures _ _ ∙ sym (paths.item-pattern _ _ _ _ _ c.if-rule-eq-PAIRS.false)
+pub pattern_item-returns-in-Patterns-clause-ended : goal.pattern_item-returns-in-Patterns-clause-ended
+pattern_item-returns-in-Patterns-clause-ended t c = c.pattern.ensures.ended ∙ sym (paths.item-pattern _ _ _ _ c.in-Patterns.is)
 
-pub pattern_items-returns-in-Failed : goal.pattern_items-returns-in-Failed
-pattern_items-returns-in-Failed t c = λ e x. sym (paths.items-spent _ _ _ _ _ _ (sym (c.in-Failed.ensures _ _)))
+pub pattern_items-returns-in_err-eat_eol-clause-ended : goal.pattern_items-returns-in_err-eat_eol-clause-ended
+pattern_items-returns-in_err-eat_eol-clause-ended t c = exits c.eat_eol.new.self _ _ c.from_residual.ensures (sym (paths.items-spent _ _ _ _ _ _ (sym c.in_err-eat_eol.ensures.ended)))
 
-pub pattern_items-returns-in-Yes : goal.pattern_items-returns-in-Yes
-pattern_items-returns-in-Yes t c = λ e x. sym (paths.items-begin _ _ _ _ _ _ c.pattern_end-end.ensures (sym (c.in-On.ensures _ _)) ∙ c.loop-u.invariant e x ∙ loops.loop-stop _ _ (items.turn-ended _ _ _ _ _ _ _ _ (sym (c.in-Yes.ensures _ _ _ _))))
+pub pattern_items-returns-in_err-eat-clause-ended : goal.pattern_items-returns-in_err-eat-clause-ended
+pattern_items-returns-in_err-eat-clause-ended t c = exits c.eat.new.self _ _ c.from_residual-in_err-eat.ensures (sym (paths.items-begin _ _ _ _ _ _ c.end-end.ensures (sym c.in_ok-eat_eol.ensures.ended) ∙ c.loop-p.invariant.rest ∙ loops.loop-failed _ _ (items.turn-failed _ _ _ _ _ _ _ _ (sym c.in_err-eat.ensures.ended))))
 
-pub pattern_items-returns-in-Failed-closed : goal.pattern_items-returns-in-Failed-closed
-pattern_items-returns-in-Failed-closed t c = λ e x. sym (paths.items-begin _ _ _ _ _ _ c.pattern_end-end.ensures (sym (c.in-On.ensures _ _)) ∙ c.loop-u.invariant e x ∙ loops.loop-failed _ _ (items.turn-failed _ _ _ _ _ _ _ _ (sym (c.in-Failed-closed.ensures _ _ _ _))))
+pub pattern_items-returns-then-branch-clause-ended : goal.pattern_items-returns-then-branch-clause-ended
+pattern_items-returns-then-branch-clause-ended t c = sym (paths.items-begin _ _ _ _ _ _ c.end-end.ensures (sym c.in_ok-eat_eol.ensures.ended) ∙ c.loop-p.invariant.rest ∙ loops.loop-stop _ _ (items.turn-ended _ _ _ _ _ _ _ _ (sym (rw c.if-branch.true at c.in_ok-eat.ensures.ended))))
 
-pub pattern_items-returns-in-Yes-lastly : goal.pattern_items-returns-in-Yes-lastly
-pattern_items-returns-in-Yes-lastly t c = λ e x. sym (paths.items-begin _ _ _ _ _ _ c.pattern_end-end.ensures (sym (c.in-On.ensures _ _)) ∙ c.loop-u.invariant e x ∙ items.turned-last _ _ _ _ _ _ _ _ _ (sym (c.in-No.ensures _ _ _ _)) (sym (c.in-Yes-lastly.ensures _ _ _ _ _)) (c.pattern_last.ensures _ _ _ _ ∙ paths.ended_is _ _ _ _ _ c.pattern_end-end.ensures))
+pub pattern_items-returns-in_err-check-clause-ended : goal.pattern_items-returns-in_err-check-clause-ended
+pattern_items-returns-in_err-check-clause-ended t c = exits c.check.new.self _ _ c.from_residual-in_err-check.ensures (sym (paths.items-begin _ _ _ _ _ _ c.end-end.ensures (sym c.in_ok-eat_eol.ensures.ended) ∙ c.loop-p.invariant.rest ∙ loops.loop-failed _ _ (items.turn-full _ _ _ _ _ _ _ _ (sym (rw c.if-branch.false at c.in_ok-eat.ensures.ended)) (sym c.in_err-check.ensures.ended))))
 
-pub pattern_items-returns-in-Failed-lastly : goal.pattern_items-returns-in-Failed-lastly
-pattern_items-returns-in-Failed-lastly t c = λ e x. sym (paths.items-begin _ _ _ _ _ _ c.pattern_end-end.ensures (sym (c.in-On.ensures _ _)) ∙ c.loop-u.invariant e x ∙ loops.loop-failed _ _ (items.turn-full _ _ _ _ _ _ _ _ (sym (c.in-No.ensures _ _ _ _)) (sym (c.in-Failed-lastly.ensures _ _ _ _ _))))
+pub pattern_items-returns-then-branch-2-clause-ended : goal.pattern_items-returns-then-branch-2-clause-ended
+pattern_items-returns-then-branch-2-clause-ended t c = sym (paths.items-begin _ _ _ _ _ _ c.end-end.ensures (sym c.in_ok-eat_eol.ensures.ended) ∙ c.loop-p.invariant.rest ∙ items.turned-last _ _ _ _ _ _ _ _ _ (sym (rw c.if-branch.false at c.in_ok-eat.ensures.ended)) (sym (rw c.if-branch-2.true at c.in_ok-check.ensures.ended)) (c.pattern_last.ensures.ended ∙ paths.ended_is _ _ _ _ _ c.end-end.ensures))
 
-pub pattern_items-returns-in-Failed-read : goal.pattern_items-returns-in-Failed-read
-pattern_items-returns-in-Failed-read t c = λ e x. sym (paths.items-begin _ _ _ _ _ _ c.pattern_end-end.ensures (sym (c.in-On.ensures _ _)) ∙ c.loop-u.invariant e x ∙ loops.loop-failed _ _ (items.turn-item-failed _ _ _ _ _ _ _ _ (sym (c.in-No.ensures _ _ _ _)) (sym (c.in-No-lastly.ensures _ _ _ _ _)) (sym (c.in-Failed-read.ensures _ _))))
+pub pattern_items-returns-in_err-link-clause-ended : goal.pattern_items-returns-in_err-link-clause-ended
+pattern_items-returns-in_err-link-clause-ended t c = exits c.pattern_item.new.p _ _ c.from_residual-in_err-link.ensures (sym (paths.items-begin _ _ _ _ _ _ c.end-end.ensures (sym c.in_ok-eat_eol.ensures.ended) ∙ c.loop-p.invariant.rest ∙ loops.loop-failed _ _ (items.turn-item-failed _ _ _ _ _ _ _ _ (sym (rw c.if-branch.false at c.in_ok-eat.ensures.ended)) (sym (rw c.if-branch-2.false at c.in_ok-check.ensures.ended)) (sym c.in_err-link.ensures.ended))))
 
-pub pattern_items-loop-u-smaller : goal.pattern_items-loop-u-smaller
-pattern_items-loop-u-smaller t c = loops.loop-less _ _ (keeps.pattern-items-take _ _ _ _) (items.turn-item _ _ _ _ _ (so c.loop-u.row) _ (world _ [] [] _) (sym (c.in-No.ensures _ _ _ _)) (sym (c.in-No-lastly.ensures _ _ _ _ _)) (sym (c.in-Node.ensures _ _)) ∙ sym (c.in-More.ensures _ _ _))
+pub pattern_items-returns-in_err-longer-clause-ended : goal.pattern_items-returns-in_err-longer-clause-ended
+pattern_items-returns-in_err-longer-clause-ended t c = exits c.after_item.new.p _ _ c.from_residual-in_err-longer.ensures (sym (paths.items-begin _ _ _ _ _ _ c.end-end.ensures (sym c.in_ok-eat_eol.ensures.ended) ∙ c.loop-p.invariant.rest ∙ loops.loop-failed _ _ (items.turn-item _ _ _ _ _ (so c.loop-p.row) _ _ (sym (rw c.if-branch.false at c.in_ok-eat.ensures.ended)) (sym (rw c.if-branch-2.false at c.in_ok-check.ensures.ended)) (sym c.in_ok-link.ensures.ended) ∙ sym c.in_err-longer.ensures.ended)))
 
-pub pattern_items-loop-u-preserved : goal.pattern_items-loop-u-preserved
-pattern_items-loop-u-preserved t c = λ e x. c.loop-u.invariant e x ∙ loops.loop-more _ _ (keeps.pattern-items-take _ _ _ _) (items.turn-item _ _ _ _ _ (so c.loop-u.row) _ _ (sym (c.in-No.ensures _ _ _ _)) (sym (c.in-No-lastly.ensures _ _ _ _ _)) (sym (c.in-Node.ensures _ _)) ∙ sym (c.in-More.ensures _ _ _))
+pub pattern_items-loop-p-smaller : goal.pattern_items-loop-p-smaller
+pattern_items-loop-p-smaller t c = loops.loop-less _ _ (keeps.pattern-items-take _ _ _ _) (items.turn-item _ _ _ _ _ (so c.loop-p.row) _ _ (sym (rw c.if-branch.false at c.in_ok-eat.ensures.ended)) (sym (rw c.if-branch-2.false at c.in_ok-check.ensures.ended)) (sym c.in_ok-link.ensures.ended) ∙ sym (rw c.in-Continue.is at c.in_ok-longer.ensures.ended))
 
-pub pattern_items-returns-in-Stop : goal.pattern_items-returns-in-Stop
-pattern_items-returns-in-Stop t c = λ e x. sym (paths.items-begin _ _ _ _ _ _ c.pattern_end-end.ensures (sym (c.in-On.ensures _ _)) ∙ c.loop-u.invariant e x ∙ loops.loop-stop _ _ (items.turn-item _ _ _ _ _ (so c.loop-u.row) _ _ (sym (c.in-No.ensures _ _ _ _)) (sym (c.in-No-lastly.ensures _ _ _ _ _)) (sym (c.in-Node.ensures _ _)) ∙ sym (c.in-Stop.ensures _ _ _)))
+pub pattern_items-loop-p-preserved : goal.pattern_items-loop-p-preserved
+pattern_items-loop-p-preserved t c = record {
+  rest = c.loop-p.invariant.rest ∙ loops.loop-more _ _ (keeps.pattern-items-take _ _ _ _) (items.turn-item _ _ _ _ _ (so c.loop-p.row) _ _ (sym (rw c.if-branch.false at c.in_ok-eat.ensures.ended)) (sym (rw c.if-branch-2.false at c.in_ok-check.ensures.ended)) (sym c.in_ok-link.ensures.ended) ∙ sym (rw c.in-Continue.is at c.in_ok-longer.ensures.ended));
+  lent = search rules;
+}
 
-pub pattern_items-returns-in-Failed-turned : goal.pattern_items-returns-in-Failed-turned
-pattern_items-returns-in-Failed-turned t c = λ e x. sym (paths.items-begin _ _ _ _ _ _ c.pattern_end-end.ensures (sym (c.in-On.ensures _ _)) ∙ c.loop-u.invariant e x ∙ loops.loop-failed _ _ (items.turn-item _ _ _ _ _ (so c.loop-u.row) _ _ (sym (c.in-No.ensures _ _ _ _)) (sym (c.in-No-lastly.ensures _ _ _ _ _)) (sym (c.in-Node.ensures _ _)) ∙ sym (c.in-Failed-turned.ensures _ _ _)))
+pub pattern_items-returns-in-Break-clause-ended : goal.pattern_items-returns-in-Break-clause-ended
+pattern_items-returns-in-Break-clause-ended t c = sym (paths.items-begin _ _ _ _ _ _ c.end-end.ensures (sym c.in_ok-eat_eol.ensures.ended) ∙ c.loop-p.invariant.rest ∙ loops.loop-stop _ _ (items.turn-item _ _ _ _ _ (so c.loop-p.row) _ _ (sym (rw c.if-branch.false at c.in_ok-eat.ensures.ended)) (sym (rw c.if-branch-2.false at c.in_ok-check.ensures.ended)) (sym c.in_ok-link.ensures.ended) ∙ sym (rw c.in-Break.is at c.in_ok-longer.ensures.ended)))
 
-pub pattern_row-returns-in-Failed : goal.pattern_row-returns-in-Failed
-pattern_row-returns-in-Failed t c = λ e x. sym (paths.row-spent _ _ _ _ _ _ _ (sym (c.in-Failed.ensures _ _)))
+pub pattern_row-returns-in_err-bump-clause-ended : goal.pattern_row-returns-in_err-bump-clause-ended
+pattern_row-returns-in_err-bump-clause-ended t c = exits c.bump.new.self _ _ c.from_residual.ensures (sym (paths.row-spent _ _ _ _ _ _ _ (sym c.in_err-bump.ensures.ended)))
 
-pub pattern_row-returns-in-Row : goal.pattern_row-returns-in-Row
-pattern_row-returns-in-Row t c = λ e x. c.close.ensures _ _ _ ∙ sym (paths.row_on _ _ _ _ _ _ _ (sym (c.in-On.ensures _ _)) (sym (c.in-Row.ensures _ _)) c.span_of-dots.ensures c.is_ended.ensures c.flagged-flags.ensures)
+pub pattern_row-returns-in_err-items-clause-ended : goal.pattern_row-returns-in_err-items-clause-ended
+pattern_row-returns-in_err-items-clause-ended t c = exits c.pattern_items.new.p _ _ c.from_residual-in_err-items.ensures (sym (paths.row-failed _ _ _ _ _ _ _ (sym c.in_ok-bump.ensures.ended) (sym c.in_err-items.ensures.ended)))
 
-pub pattern_row-returns-in-Failed-listed : goal.pattern_row-returns-in-Failed-listed
-pattern_row-returns-in-Failed-listed t c = λ e x. sym (paths.row-failed _ _ _ _ _ _ _ (sym (c.in-On.ensures _ _)) (sym (c.in-Failed-listed.ensures _ _)))
+pub pattern_row-returns-clause-ended : goal.pattern_row-returns-clause-ended
+pattern_row-returns-clause-ended t c = c.close.ensures.ended ∙ sym (paths.row_on _ _ _ _ _ _ _ (sym c.in_ok-bump.ensures.ended) (sym c.in_ok-items.ensures.ended) c.span_of-dots.ensures (c.is_some.ensures ∙ items.is-ended-is-some _) c.flagged-flags.ensures)
 
-pub table_pattern_pair-returns-in-Failed : goal.table_pattern_pair-returns-in-Failed
-table_pattern_pair-returns-in-Failed t c = λ e x. sym (paths.pair-failed _ _ _ _ c.start_range-from.ensures (sym (c.in-Failed.ensures _ _ _)))
+pub table_pattern_pair-returns-in_err-key-clause-ended : goal.table_pattern_pair-returns-in_err-key-clause-ended
+table_pattern_pair-returns-in_err-key-clause-ended t c = exits c.lit.new.p _ _ c.from_residual.ensures (sym (paths.pair-failed _ _ _ _ c.start_range-from.ensures (sym c.in_err-key.ensures.ended)))
 
-pub table_pattern_pair-returns-in-Failed-colon : goal.table_pattern_pair-returns-in-Failed-colon
-table_pattern_pair-returns-in-Failed-colon t c = λ e x. sym (paths.pair-open _ _ _ _ c.start_range-from.ensures (sym (c.in-Node.ensures _ _ _)) (sym (c.in-Failed-colon.ensures _ _ _ _)))
+pub table_pattern_pair-returns-in_err-expect-clause-ended : goal.table_pattern_pair-returns-in_err-expect-clause-ended
+table_pattern_pair-returns-in_err-expect-clause-ended t c = exits c.expect.new.self _ _ c.from_residual-in_err-expect.ensures (sym (paths.pair-open _ _ _ _ c.start_range-from.ensures (sym c.in_ok-key.ensures.ended) (sym c.in_err-expect.ensures.ended)))
 
-pub table_pattern_pair-returns-in-Node-valued : goal.table_pattern_pair-returns-in-Node-valued
-table_pattern_pair-returns-in-Node-valued t c = λ e x. c.pair.ensures _ _ _ ∙ sym (paths.pair-on _ _ _ _ c.start_range-from.ensures (sym (c.in-Node.ensures _ _ _)) (sym (c.in-On.ensures _ _ _ _)) (sym (c.in-Node-valued.ensures _ _)))
+pub table_pattern_pair-returns-in_err-value-clause-ended : goal.table_pattern_pair-returns-in_err-value-clause-ended
+table_pattern_pair-returns-in_err-value-clause-ended t c = exits c.pattern.new.p _ _ c.from_residual-in_err-value.ensures (sym (paths.pair-lost _ _ _ _ c.start_range-from.ensures (sym c.in_ok-key.ensures.ended) (sym c.in_ok-expect.ensures.ended) (sym c.in_err-value.ensures.ended)))
 
-pub table_pattern_pair-returns-in-Failed-valued : goal.table_pattern_pair-returns-in-Failed-valued
-table_pattern_pair-returns-in-Failed-valued t c = λ e x. sym (paths.pair-lost _ _ _ _ c.start_range-from.ensures (sym (c.in-Node.ensures _ _ _)) (sym (c.in-On.ensures _ _ _ _)) (sym (c.in-Failed-valued.ensures _ _)))
+pub table_pattern_pair-returns-clause-ended : goal.table_pattern_pair-returns-clause-ended
+table_pattern_pair-returns-clause-ended t c = c.pair.ensures.ended ∙ sym (paths.pair-on _ _ _ _ c.start_range-from.ensures (sym c.in_ok-key.ensures.ended) (sym c.in_ok-expect.ensures.ended) (sym c.in_ok-value.ensures.ended))

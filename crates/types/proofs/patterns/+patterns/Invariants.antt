@@ -1,8 +1,12 @@
-use Rattle.std.proofs.Common.{ℕ, List, ◌≡◌, ◌+◌, ◌-◌, ◌*◌}
+use Rattle.std.proofs.Common.{ℕ, ◌≡◌, ◌+◌, ◌-◌, ◌*◌}
 use Rattle.kinds.specs.Number as kind
-use Rattle.cursor.specs.Sheet.{sheet, count}
-use Rattle.cursor.specs.Rule.{world, iterate}
+use Rattle.cursor.specs.declared.Sheet.{Sheet}
+use Rattle.cursor.specs.Sheet.{count}
+use Rattle.cursor.specs.Rule.{Turn, iterate}
+use Rattle.cursor.specs.Answers.{sheet_of, run, SameErrors}
+use Rattle.types.specs.declared.items.Items.{Items}
 use Rattle.types.specs.Items.{so, item_turn}
+use Rattle.types.specs.ItemRules.{pattern_rule}
 use Rattle.types.specs.Patterns.{pattern_item, pattern_last, patterns}
 use Rattle.types.proofs.patterns.+patterns.Given as goal
 
@@ -21,10 +25,16 @@ decreases-pattern_items l = 10 * l.depth + 3
 abbrev pub decreases-pattern_row : goal.decreases-pattern_row
 decreases-pattern_row l = 10 * l.depth + 4
 
--- the loop of a list: going on from here gives what going on from its start gives
-abbrev pub invariant-pattern_items-loop-u : goal.invariant-pattern_items-loop-u
-invariant-pattern_items-loop-u l = (e x : List ℕ) → iterate (sheet l.text l.tokens l.limits) (item_turn (sheet l.text l.tokens l.limits) (pattern_item (sheet l.text l.tokens l.limits) (patterns (sheet l.text l.tokens l.limits) l.depth) l.rule) kind.Ellipsis (pattern_last (sheet l.text l.tokens l.limits)) l.end) (so l.initial.row) l.initial.t (world l.initial.nodes e x l.initial.live)
-    ≡ iterate (sheet l.text l.tokens l.limits) (item_turn (sheet l.text l.tokens l.limits) (pattern_item (sheet l.text l.tokens l.limits) (patterns (sheet l.text l.tokens l.limits) l.depth) l.rule) kind.Ellipsis (pattern_last (sheet l.text l.tokens l.limits)) l.end) (so l.row) l.t (world l.nodes e x l.live)
+-- a turn of the loop of a list
+abbrev turn : Sheet → ℕ → ℕ → ℕ → Turn Items
+turn e depth rule end = item_turn (sheet_of e) (pattern_item (sheet_of e) (patterns (sheet_of e) depth) rule) kind.Ellipsis (pattern_last (sheet_of e)) end
 
-abbrev pub decreases-pattern_items-loop-u : goal.decreases-pattern_items-loop-u
-decreases-pattern_items-loop-u l = count l.tokens - l.t.at
+-- going on from here gives what going on from the start gives
+abbrev pub invariant-pattern_items-loop-p : goal.invariant-pattern_items-loop-p
+invariant-pattern_items-loop-p l = record {
+  rest : run (iterate (sheet_of l.sheet) (turn l.sheet l.depth (pattern_rule l.rule) l.end) (so l.initial.row)) l.initial.p ≡ run (iterate (sheet_of l.sheet) (turn l.sheet l.depth (pattern_rule l.rule) l.end) (so l.row)) l.p;
+  lent : SameErrors l.initial.p l.p;
+}
+
+abbrev pub decreases-pattern_items-loop-p : goal.decreases-pattern_items-loop-p
+decreases-pattern_items-loop-p l = count l.sheet.tokens.now - l.p.state.at

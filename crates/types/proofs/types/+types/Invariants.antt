@@ -1,7 +1,12 @@
-use Rattle.std.proofs.Common.{ℕ, List, ◌≡◌, ◌+◌, ◌-◌, ◌*◌}
-use Rattle.cursor.specs.Sheet.{sheet, count}
-use Rattle.cursor.specs.Rule.{world, iterate}
+use Rattle.std.proofs.Common.{ℕ, ◌≡◌, ◌+◌, ◌-◌, ◌*◌}
+use Rattle.cursor.specs.declared.Sheet.{Sheet}
+use Rattle.cursor.specs.declared.Kids.{Kids}
+use Rattle.cursor.specs.Sheet.{count}
+use Rattle.cursor.specs.Rule.{Turn, iterate}
+use Rattle.cursor.specs.Answers.{sheet_of, run, SameErrors}
+use Rattle.types.specs.declared.items.Items.{Items}
 use Rattle.types.specs.Items.{so, item_turn}
+use Rattle.types.specs.ItemRules.{type_rule}
 use Rattle.types.specs.Types.{union_turn, type_item, type_last_kind, type_last, atoms}
 use Rattle.types.proofs.types.+types.Given as goal
 
@@ -50,16 +55,28 @@ decreases-type_table l = 10 * l.depth + 9
 abbrev pub decreases-type_function : goal.decreases-type_function
 decreases-type_function l = 10 * l.depth + 9
 
--- the loop of a list: going on from here gives what going on from its start gives
-abbrev pub invariant-type_items-loop-u : goal.invariant-type_items-loop-u
-invariant-type_items-loop-u l = (e x : List ℕ) → iterate (sheet l.text l.tokens l.limits) (item_turn (sheet l.text l.tokens l.limits) (type_item (sheet l.text l.tokens l.limits) (atoms (sheet l.text l.tokens l.limits) l.depth) l.rule) (type_last_kind l.rule) (type_last (sheet l.text l.tokens l.limits) (atoms (sheet l.text l.tokens l.limits) l.depth) l.rule) l.end) (so l.initial.row) l.initial.t (world l.initial.nodes e x l.initial.live)
-    ≡ iterate (sheet l.text l.tokens l.limits) (item_turn (sheet l.text l.tokens l.limits) (type_item (sheet l.text l.tokens l.limits) (atoms (sheet l.text l.tokens l.limits) l.depth) l.rule) (type_last_kind l.rule) (type_last (sheet l.text l.tokens l.limits) (atoms (sheet l.text l.tokens l.limits) l.depth) l.rule) l.end) (so l.row) l.t (world l.nodes e x l.live)
+-- a turn of the loop of a list, and one of a union's
+abbrev turn : Sheet → ℕ → ℕ → ℕ → Turn Items
+turn e depth rule end = item_turn (sheet_of e) (type_item (sheet_of e) (atoms (sheet_of e) depth) rule) (type_last_kind rule) (type_last (sheet_of e) (atoms (sheet_of e) depth) rule) end
 
-abbrev pub decreases-type_items-loop-u : goal.decreases-type_items-loop-u
-decreases-type_items-loop-u l = count l.tokens - l.t.at
+abbrev part : Sheet → ℕ → Turn Kids
+part e depth = union_turn (sheet_of e) (atoms (sheet_of e) depth)
 
-abbrev pub invariant-union_of-loop-u : goal.invariant-union_of-loop-u
-invariant-union_of-loop-u l = (e x : List ℕ) → iterate (sheet l.text l.tokens l.limits) (union_turn (sheet l.text l.tokens l.limits) (atoms (sheet l.text l.tokens l.limits) l.depth)) l.initial.kids l.initial.t (world l.initial.nodes e x l.initial.live) ≡ iterate (sheet l.text l.tokens l.limits) (union_turn (sheet l.text l.tokens l.limits) (atoms (sheet l.text l.tokens l.limits) l.depth)) l.kids l.t (world l.nodes e x l.live)
+-- going on from here gives what going on from the start gives
+abbrev pub invariant-type_items-loop-p : goal.invariant-type_items-loop-p
+invariant-type_items-loop-p l = record {
+  rest : run (iterate (sheet_of l.sheet) (turn l.sheet l.depth (type_rule l.rule) l.end) (so l.initial.row)) l.initial.p ≡ run (iterate (sheet_of l.sheet) (turn l.sheet l.depth (type_rule l.rule) l.end) (so l.row)) l.p;
+  lent : SameErrors l.initial.p l.p;
+}
 
-abbrev pub decreases-union_of-loop-u : goal.decreases-union_of-loop-u
-decreases-union_of-loop-u l = count l.tokens - l.t.at
+abbrev pub decreases-type_items-loop-p : goal.decreases-type_items-loop-p
+decreases-type_items-loop-p l = count l.sheet.tokens.now - l.p.state.at
+
+abbrev pub invariant-union_of-loop-p : goal.invariant-union_of-loop-p
+invariant-union_of-loop-p l = record {
+  rest : run (iterate (sheet_of l.sheet) (part l.sheet l.depth) l.initial.kids) l.initial.p ≡ run (iterate (sheet_of l.sheet) (part l.sheet l.depth) l.kids) l.p;
+  lent : SameErrors l.initial.p l.p;
+}
+
+abbrev pub decreases-union_of-loop-p : goal.decreases-union_of-loop-p
+decreases-union_of-loop-p l = count l.sheet.tokens.now - l.p.state.at

@@ -1,9 +1,10 @@
 use Rattle.std.proofs.Common.{sym, ◌∙◌}
 use Rattle.types.proofs.TypePaths as paths
+use Rattle.cursor.proofs.Exits.{exits}
 use Rattle.types.proofs.types.closure_params.Goals as goal
 
-pub returns-in-On : goal.returns-in-On
-returns-in-On c = λ e x. c.type_items.ensures _ _ ∙ sym (paths.closure-on _ _ _ _ _ (sym (c.in-On.ensures _ _ _ _)))
+pub returns-in_err-expect-clause-ended : goal.returns-in_err-expect-clause-ended
+returns-in_err-expect-clause-ended c = exits c.expect.new.self _ _ c.from_residual.ensures (sym (paths.closure-shut _ _ _ _ _ (sym c.in_err-expect.ensures.ended)))
 
-pub returns-in-Failed : goal.returns-in-Failed
-returns-in-Failed c = λ e x. sym (paths.closure-shut _ _ _ _ _ (sym (c.in-Failed.ensures _ _ _ _)))
+pub returns-clause-ended : goal.returns-clause-ended
+returns-clause-ended c = c.type_items.ensures.ended ∙ sym (paths.closure-on _ _ _ _ _ (sym c.in_ok-expect.ensures.ended))
