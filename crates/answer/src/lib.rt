@@ -11,7 +11,7 @@ use listing::{Counts, LENT_ERRORS, LENT_EXPECTED, LENT_NODES, LENT_OUT};
 // The readings that the lister allows.
 const ALLOWANCE: u32 = 100000;
 
-// The number that stands for a bundle that is none.
+// The number that stands for a bundle that is none, here and in `words`, which stands on no other line of this crate.
 const NO_BUNDLE: u8 = 12;
 
 // The bytes of text and the words of tokens that the lister has room for.

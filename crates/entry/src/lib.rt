@@ -37,6 +37,7 @@ const RAW_STR: u32 = kinds::RAW_STR as u32;
 
 const BYTE_STR: u32 = kinds::BYTE_STR as u32;
 
+// A function of this name, since the rules and the crates above go by it.
 pub fn refusal_number(r: Refusal) -> u8
     ensures { result ≡ refusal_number r }
 {
@@ -143,7 +144,8 @@ fn past_ascii(text: &[u8], from: usize) -> usize
     at
 }
 
-// Whether the text is whole characters from its start to its end.
+// Whether the text is whole characters from its start to its end. Over a place, since a character's length says where the next one starts; and by the rows
+// of the RFC and no function of std, since they are what `utf8-decides` speaks of.
 fn is_utf8(text: &[u8]) -> bool
     ensures { result ≡ is_utf8 text.now }
 {

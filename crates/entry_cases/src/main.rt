@@ -54,7 +54,7 @@ fn fill(text: &mut [u8], b: u8, count: u32) {
     }
 }
 
-// `count` bytes of the input from `from` on, into the text from `to` on.
+// `count` bytes of the input from `from` on, into the text from `to` on. Byte by byte, since a case may name more than either side has.
 fn copy(input: &[u8], text: &mut [u8], from: usize, to: usize, count: u32) {
     if input.len() < from {
         return;
@@ -149,6 +149,7 @@ struct Tally {
 }
 
 fn judge(input: &[u8], text: &mut [u8], words: &mut [u32]) -> Tally {
+    // Over a place: each case says where the next one starts.
     let mut at: usize = 0;
     let mut cases: u64 = 0;
     let mut wrong: u64 = 0;

@@ -151,7 +151,7 @@ pub fn int_value(text: &[u8], start: u32, end: u32) -> Result<Int, IntFault>
     from_str_radix(bytes, radix)
 }
 
-// The fault's number in listings.
+// The fault's number in listings. A function of this name, since the rules and the crates above go by it.
 pub fn fault_number(f: IntFault) -> u8
     ensures { result ≡ fault_number f }
 {

@@ -70,7 +70,7 @@ pub fn assign_op(kind: u32) -> Option<BinOp>
     }
 }
 
-// The kind of the token that an operator is written with: what a record keeps of it.
+// The kind of the token that an operator is written with: what a record keeps of it. A function of this name, since the rules and the crates above go by it.
 pub fn op_kind(op: BinOp) -> u8
     ensures { result ≡ op_kind op }
 {

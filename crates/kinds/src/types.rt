@@ -73,14 +73,14 @@ pub fn type_word(text: &[u8], start: u32, end: u32) -> Option<ValueType>
     None
 }
 
-// The number that a record keeps of a type.
+// The number that a record keeps of a type. A function of this name, since the rules and the crates above go by it.
 pub fn value_type_number(v: ValueType) -> u8
     ensures { result ≡ type_number v }
 {
     v as u8
 }
 
-// Where the listing name of the type with a number starts among the names, 0 where no type has it.
+// Where the listing name of the type with a number starts among the names, 0 where no type has it: the empty name stands there, so that no caller asks.
 pub fn value_type_name_place(number: u32) -> usize
     ensures { result ≡ type_name_place number }
 {

@@ -103,7 +103,7 @@ const SHEETS: [(&[u8], &[Token]); 20] = [
     ),
 ];
 
-// A count in four bytes, the lowest first.
+// A count in four bytes, the lowest first. `words` has the same lines: a crate for them would be no plainer.
 fn put_count(bundle: &mut Vec<u8>, count: usize) -> Result<(), AllocError> {
     bundle.extend_from_slice(&u32::try_from(count).unwrap_or(u32::MAX).to_le_bytes())
 }

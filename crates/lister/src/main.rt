@@ -6,7 +6,7 @@ use listing::LENT_OUT;
 use std::io;
 use std::io::Write;
 
-// One byte more than the largest bundle that has an answer of its own, so that a larger one is seen to be.
+// One byte more than the largest bundle that has an answer of its own, so that a larger one is seen to be. `replay` has the same room.
 const ROOM: usize = 29893;
 
 fn main(rt: HostRuntime) -> io::Result<()> {

@@ -44,7 +44,8 @@ fn lines(nodes: &[u32], errors: &[u32], expected: &[u8], page: &mut Page, counts
     error_lines(errors, expected, page, counts.errors);
 }
 
-// The listing of a reading, written at the start of a buffer, and how many bytes it has. It is measured first, so that a buffer too short
+// The listing of a reading, whose three buffers are those that `parse` has filled (a struct of them would be made for this call alone), written at the start of
+// a buffer, and how many bytes it has. It is measured first, so that a buffer too short
 // for it is left as it was.
 pub fn listing(
     nodes: &[u32],
@@ -91,7 +92,8 @@ fn refusal_line(page: &mut Page, number: u8)
     page.put_byte(b'\n');
 }
 
-// What is printed for a refusal, and how many bytes it has.
+// What is printed for a refusal, and how many bytes it has. The steps are those of `listing`: a function for both would take what is written as a closure
+// with clauses of its own, and is no plainer.
 pub fn refusal(out: &mut [u8], number: u8) -> Option<usize>
     ensures { as_listed result out.new ≡ written (refusal_of number) out.old }
 {

@@ -34,7 +34,7 @@ impl<'a> Page<'a> {
         }
     }
 
-    // A number in decimal.
+    // A number in decimal. By hand, since what is past the end is counted too, where a Display ends with an error.
     pub fn put_number(&mut self, n: u64)
         ensures { self.new ≡ emits (decimal n) self.old }
     {

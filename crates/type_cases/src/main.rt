@@ -18,7 +18,7 @@ use types::types::{ty, type_atom};
 // The bytes of a case before its bundle.
 const HEAD: usize = 6;
 
-// The forms.
+// The forms, bytes of a case, of which `by_form` speaks: any other is a pattern.
 const TYPE: u8 = 0;
 
 const ATOM: u8 = 1;
@@ -42,7 +42,7 @@ fn print_listing(
     print_listed(output, &out, listed)
 }
 
-// The number that the document gives a refusal.
+// The number that the document gives a refusal. `parser` has it for its own refusals, and would bring the whole parser along.
 fn number(refusal: Refusal) -> u8
     ensures { result ≡ number refusal }
 {

@@ -10,7 +10,7 @@ ghost use Rattle.std.specs.Prelude.{◌<◌, ◌^◌, length};
 use std::alloc::{AllocError, Global};
 use std::io;
 
-// The number that stands for a piece that is none: no bundle, or more is lent than there is here.
+// The number that stands for a piece that is none: no bundle, or more is lent than there is here. `answer` has it too, of which this program needs nothing.
 const NO_BUNDLE: u8 = 12;
 
 // The bytes of the four numbers before a bundle.
@@ -56,7 +56,7 @@ fn lent_by(head: &[u8; HEAD]) -> Option<Lent> {
     Some(lent)
 }
 
-// A count in four bytes, the lowest first.
+// A count in four bytes, the lowest first. `known_cases` has the same lines: a crate for them would be no plainer.
 fn put_count(answer: &mut Vec<u8>, count: usize) -> Result<(), AllocError> {
     answer.extend_from_slice(&u32::try_from(count).unwrap_or(u32::MAX).to_le_bytes())
 }
