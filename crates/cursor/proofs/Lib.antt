@@ -7,6 +7,7 @@ pub mod Loans
 pub mod Loops
 pub mod RecordPaths
 pub mod TokenPaths
+pub mod Held
 pub mod Told
 pub mod Unique
 pub mod RuledOut

@@ -198,7 +198,11 @@ bump-keeps-the-list κs x p h = strays (λ s. s.live) p.0 h refl
 
 -- the buffers are the caller's, and no others
 pub bump-lends-another-buffer : (κs : _) (x : _) → bump.Post κs (moved none (state 0 0 5 1), (sheet tokens, tt)) (Ok tt) x → x.0.now.nodes.ghost_name ≡ 1 → ⊥
-bump-lends-another-buffer κs x p h = eqb-false 1 0 refl (sym h ∙ ap (λ b. b.ghost_name) p.1.nodes)
+bump-lends-another-buffer κs x p h = eqb-false 1 0 refl (sym h ∙ ap (λ b. b.ghost_name) p.1.0.nodes)
+
+-- a refusal leaves the parser where it stood
+pub bump-refused-empties-the-list : (κs : _) (x : _) → bump.Post κs (moved none (state 0 0 9 1), (sheet tokens, tt)) (Err (stops.Refused refusals.AllSpent)) x → x.0.now.state ≡ state 0 0 9 0 → ⊥
+bump-refused-empties-the-list κs x p h = apart (λ s. s.live) (sym p.1.1 ∙ h) refl
 
 pub eat-trivia-stays : (κs : _) (x : _) → eat-trivia.Post κs (moved none (state 1 1 1 0), (sheet tokens, tt)) tt x → x.0.now.state ≡ state 1 1 1 0 → ⊥
 unfolding eat_trivia past_trivia past_from count kind_at is_trivia
@@ -215,6 +219,9 @@ eat-eol-takes-none κs x p h = strays (λ s. s.at) p.0 h refl
 pub eat-eol-takes-commas : (κs : _) (x : _) → eat-eol.Post κs (moved none (state 0 0 0 0), (sheet lines, tt)) (Ok tt) x → x.0.now.state ≡ state 2 2 2 0 → ⊥
 unfolding eat_eol eol_turn iterate turns eat_trivia bump past_trivia past_from count kind_at range_at is_trivia
 eat-eol-takes-commas κs x p h = strays (λ s. s.at) p.0 h refl
+
+pub eat-eol-refused-moves-on : (κs : _) (x : _) → eat-eol.Post κs (moved none (state 0 0 8 0), (sheet lines, tt)) (Err (stops.Refused refusals.AllSpent)) x → x.0.now.state ≡ state 1 1 9 0 → ⊥
+eat-eol-refused-moves-on κs x p h = apart (λ s. s.reads) (sym p.1.1 ∙ h) refl
 
 pub start-range-1-at-the-end : (κs : _) (x : _) → start-range.Post κs (seen none (state 3 3 0 0), (sheet tokens, tt)) 1 x → ⊥
 unfolding range_at count

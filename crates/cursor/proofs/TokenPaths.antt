@@ -7,7 +7,7 @@ use Rattle.kinds.specs.Number as kind
 use Rattle.kinds.specs.Kinds.{is_trivia}
 use Rattle.cursor.specs.declared.State.{State}
 use Rattle.cursor.specs.declared.Span.{Span}
-use Rattle.cursor.specs.Sheet.{Sheet, count, kind_at, range_at}
+use Rattle.cursor.specs.Sheet.{Sheet, Ranged, count, kind_at, range_at}
 use Rattle.cursor.specs.Rule.{World, Stop, done, failed, refused, more, stop, iterate}
 use Rattle.cursor.specs.Tokens.{past_from, past_trivia, eat_trivia, bump, eol_turn, eat_eol, rewind}
 use Rattle.cursor.proofs.Ends.{Ends, well, cut, Any, branch, then}
@@ -91,6 +91,18 @@ module _ (e : Sheet) (s : State) (w : World) where
     pub bump-on : {i : ℕ} → s.reads < e.limits.allowance → i ≡ past_trivia e.tokens (s.at + 1) → bump e s w ≡ done (record { at = i; prev = r.end; reads = s.reads + 1; nodes = s.nodes; errors = s.errors; wanted = s.wanted; live = 0 }) w tt
     unfolding bump count
     bump-on q n = rw (lt-ltb _ _ (range-there _ _ p), bump) (rw (lt-ltb _ _ q, p, n))
+
+  -- it fails by a refusal alone
+  pub bump-refused : {x : Stop} → failed x ≡ bump e s w → x ≡ refused 10
+  bump-refused {x} h = at-end-or-not (range_at e.tokens s.at) refl
+    where
+      spent-or-not : {r : Span} → range_at e.tokens s.at ≡ Some r → Dec (s.reads < e.limits.allowance) → x ≡ refused 10
+      spent-or-not p (yes q) = absurd (cc (h, bump-on p q refl))
+      spent-or-not p (no q) = cc (h, bump-spent p (omega arith))
+
+      at-end-or-not : (r : Ranged) → range_at e.tokens s.at ≡ r → x ≡ refused 10
+      at-end-or-not None p = absurd (cc (h, bump-end p))
+      at-end-or-not (Some r) p = spent-or-not p (dec_lt s.reads e.limits.allowance)
 
   pub eat-trivia-on : {i : ℕ} → i ≡ past_trivia e.tokens s.at → eat_trivia e s w ≡ done (record { at = i; prev = s.prev; reads = s.reads; nodes = s.nodes; errors = s.errors; wanted = s.wanted; live = s.live }) w tt
   unfolding eat_trivia

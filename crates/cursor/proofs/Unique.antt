@@ -9,7 +9,7 @@ use Rattle.cursor.specs.declared.Fault.{Fault}
 use Rattle.cursor.specs.declared.Stop.TheVariants as stops
 use Rattle.cursor.specs.Rule.{Out}
 use Rattle.cursor.specs.Answers.{ended}
-use Rattle.cursor.proofs.Told.{Same, One, one, alike}
+use Rattle.cursor.proofs.Told.{Same, One, one, one_held, alike}
 use Rattle.cursor.proofs.reader.Reader.over.Reads as over
 use Rattle.cursor.proofs.reader.Reader.kind.Reads as kind
 use Rattle.cursor.proofs.reader.Reader.range.Reads as range
@@ -77,12 +77,14 @@ one-flagged κs args r s x y p q = p ∙ sym q
 pub one-erred : {A : Type 0} {o : Out A} (p q : Parser) (f g : Fault) → ended {A = A} p (Err (stops.Fault f)) ≡ o → ended q (Err (stops.Fault g)) ≡ o → (f ≡ g) × Same p q
 one-erred p q f g h k = (cc (h, k), (cc (h, k), cc (h, k)))
 
--- a rule
-pub one-bump : (κs : _) (args : _) (r s : _) (x y : _) → bump.Post κs args r x → bump.Post κs args s y → One x.0.now y.0.now r s
-one-bump κs args r s x y p q = one x.0.now y.0.now r s p.0 q.0
+-- a rule that writes no buffer: on a refusal too
+pub one-bump : (κs : _) (args : _) (r s : _) (x y : _) → bump.Post κs args r x → bump.Post κs args s y → (r ≡ s) × Same x.0.now y.0.now
+one-bump κs args r s x y p q = one_held args.0.now x.0.now y.0.now r s p.0 q.0 p.1.1 q.1.1 p.1.0 q.1.0
 
-pub one-eat-eol : (κs : _) (args : _) (r s : _) (x y : _) → eat-eol.Post κs args r x → eat-eol.Post κs args s y → One x.0.now y.0.now r s
-one-eat-eol κs args r s x y p q = one x.0.now y.0.now r s p.0 q.0
+pub one-eat-eol : (κs : _) (args : _) (r s : _) (x y : _) → eat-eol.Post κs args r x → eat-eol.Post κs args s y → (r ≡ s) × Same x.0.now y.0.now
+one-eat-eol κs args r s x y p q = one_held args.0.now x.0.now y.0.now r s p.0 q.0 p.1.1 q.1.1 p.1.0 q.1.0
+
+-- a rule
 
 pub one-check : (κs : _) (args : _) (r s : _) (x y : _) → check.Post κs args r x → check.Post κs args s y → One x.0.now y.0.now r s
 one-check κs args r s x y p q = one x.0.now y.0.now r s p.0 q.0

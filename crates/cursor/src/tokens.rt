@@ -1,5 +1,5 @@
 // Where the reading stands in the token list. What stands there is asked of a reader at that place.
-ghost use Rattle.std.specs.Prelude.{◌≡◌, Ok};
+ghost use Rattle.std.specs.Prelude.{◌≡◌, Ok, OnErr};
 ghost use Rattle.cursor.specs.Sheet.{kind_at, range_at};
 ghost use Rattle.cursor.specs.Rule.{done};
 ghost use Rattle.cursor.specs.Tokens.{eat_trivia, bump, eat_eol, start_of, end_range, rewind};
@@ -27,6 +27,7 @@ impl Parser<'_> {
     pub fn bump(&mut self, sheet: &Sheet<'_>) -> Result<(), Stop>
         ensures ended { ended self.new result ≡ run (bump (sheet_of sheet.now)) self.old }
         ensures lent { SameBuffers self.old self.new }
+        ensures stays { OnErr result (self.new.state ≡ self.old.state) }
     {
         let Some(span) = self.current_range(sheet) else {
             self.state.live = 0;
@@ -54,10 +55,15 @@ impl Parser<'_> {
     pub fn eat_eol(&mut self, sheet: &Sheet<'_>) -> Result<(), Stop>
         ensures ended { ended self.new result ≡ run (eat_eol (sheet_of sheet.now)) self.old }
         ensures lent { SameBuffers self.old self.new }
+        ensures stays { OnErr result (self.new.state ≡ self.old.state) }
     {
+        let mark = self.state;
         self.eat_trivia(sheet);
         while self.current_kind(sheet) == kinds::EOL as u32 {
-            self.bump(sheet)?;
+            if let Err(stop) = self.bump(sheet) {
+                self.state = mark;
+                return Err(stop);
+            }
         }
         Ok(())
     }

@@ -10,7 +10,7 @@ use lib.Seq.{drop-cons, drop-drop}
 use lib.Dec.{leb, ltb, lit<}
 use borrow.Author.Tests.{ltb-true, ltb-false, le-leb, lt-leb}
 use Rattle.entry.specs.Utf8.{Range, Form, tail, forms, holds, fits, first_fit, char_length, no_tail}
-use Rattle.entry.proofs.Forms.{holds-in, apart, parted, gap, only, nth}
+use Rattle.entry.proofs.Forms.{holds-in, holds-above, apart, parted, gap, only, nth}
 
 module _ (r : Range) (f : Form) (t : List ℕ) (k : ℕ) where
   pub fits-past : length t ≤ k → fits (r ∷ f) (drop k t) ≡ false
@@ -39,6 +39,10 @@ module _ (r : Range) (t : List ℕ) (k : ℕ) (p : k < length t) where
 
   pub byte-below : get_or t k 0 < r.low → fits (r ∷ []) (drop k t) ≡ false
   byte-below q = byte-here ∙ rw (lt-leb _ _ q)
+
+  -- and above it
+  pub byte_above : r.high < get_or t k 0 → fits (r ∷ []) (drop k t) ≡ false
+  byte_above q = fits-here r [] t k p ∙ rw (holds-above r _ q)
 
   pub byte-from : r.low ≤ get_or t k 0 → fits (r ∷ []) (drop k t) ≡ leb (get_or t k 0) r.high
   byte-from q = byte-here ∙ rw (le-leb _ _ q)

@@ -13,9 +13,9 @@ use cursor::records::flagged;
 use cursor::{Kids, Parser, Sheet, Stop, nodes};
 use parts::forms::{Form, ItemRule};
 use parts::records::{
-    atom_expr, if_record, list_record, loop_record, nameless, round_record, row_record,
+    atom_expr_of, if_record, list_record, loop_record, nameless, round_record_of, row_record,
 };
-use parts::steps::{case_patterns, leaf, loop_names};
+use parts::steps::{case_patterns, leaf_of, loop_names_of};
 use parts::values::Expr;
 use types::items::{NO_KIDS, close};
 use types::lits::{ident, lit};
@@ -50,7 +50,7 @@ pub fn atom(p: &mut Parser<'_>, sheet: &Sheet<'_>, depth: u32) -> Result<Expr, S
         return Ok(Expr::Other(link));
     };
     let link = form(p, sheet, depth, from, which)?;
-    Ok(atom_expr(which, link))
+    Ok(atom_expr_of(which, link))
 }
 
 // An atom of a form; a literal has none.
@@ -73,7 +73,7 @@ fn form(
         Form::If => if_expr(p, sheet, depth, from),
         Form::Match => match_expr(p, sheet, depth, from),
         Form::Loop | Form::While | Form::For => loops(p, sheet, depth, from, which),
-        Form::Break | Form::Continue => leaf(p, sheet, from, which),
+        Form::Break | Form::Continue => leaf_of(p, sheet, from, which),
     }
 }
 
@@ -213,9 +213,9 @@ fn loops(
             loop_record(p, from, body)
         }
         _ => {
-            let names = loop_names(p, sheet, which)?;
+            let names = loop_names_of(p, sheet, which)?;
             let kids = expr_and_block(p, sheet, depth, names)?;
-            round_record(p, from, which, names.count, kids)
+            round_record_of(p, from, which, names.count, kids)
         }
     }
 }

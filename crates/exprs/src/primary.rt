@@ -14,8 +14,8 @@ use crate::suffix::{is_suffix, no_suffix};
 use crate::tables::items;
 use cursor::{Kids, Parser, Sheet, Stop, nodes};
 use parts::forms::{ItemRule, Opening};
-use parts::records::{call_record, member_record};
-use parts::steps::{braced, meta_end, no_member, pound, question};
+use parts::records::{call_record, member_record_of};
+use parts::steps::{braced, meta_end_of, no_member, pound, question};
 use parts::values::Expr;
 use std::ops::ControlFlow;
 use types::lits::ident;
@@ -121,7 +121,7 @@ fn access(
     };
     let meta = pound(p, sheet)?;
     let link = member_property(p, sheet, depth, opening, meta)?;
-    member_record(p, from, x, safe, opening, meta, link)
+    member_record_of(p, from, x, safe, opening, meta, link)
 }
 
 // The property of a member, of the macro member_expr; none where it is a meta member.
@@ -137,7 +137,7 @@ fn member_property(
     ensures lent { SameLoans p.old p.new }
 {
     if meta {
-        return meta_end(p, sheet, opening);
+        return meta_end_of(p, sheet, opening);
     }
     match opening {
         Opening::Bracket => {

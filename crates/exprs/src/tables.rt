@@ -10,7 +10,7 @@ use cursor::{Kids, Parser, Sheet, Stop, nodes};
 use parts::forms::ItemRule;
 use parts::records::{block_record, list_record};
 use parts::recovery::undone;
-use parts::steps::{items_end, lit_key, paren_key};
+use parts::steps::{items_end_of, lit_key, paren_key};
 use std::ops::ControlFlow;
 use types::items::{Items, after_item, close, pair};
 
@@ -110,7 +110,7 @@ pub fn items(
     ensures ended { ended p.new result ≡ run (items_of (levels (sheet_of sheet.now) depth) (item_rule rule) kids) p.old }
     ensures lent { SameLoans p.old p.new }
 {
-    let end = items_end(rule);
+    let end = items_end_of(rule);
     p.eat_eol(sheet)?;
     let mut row = kids;
     loop {

@@ -5,6 +5,7 @@
 ghost use Rattle.std.specs.Prelude.{◌≤◌};
 
 use ints::{Int, IntFault, Sign};
+use pieces::Unfailing;
 use std::io;
 use std::io::Write;
 
@@ -66,5 +67,8 @@ fn run(output: &mut impl Write, s: &[u8]) -> io::Result<()> {
 fn main(rt: HostRuntime) -> io::Result<()> {
     let mut input = [0u8; 65536];
     let n = pieces::fill(&mut rt.reader(), &mut input);
-    run(&mut io::writer(&rt), &input[..n])
+    let mut output = Unfailing {
+        output: io::writer(&rt),
+    };
+    run(&mut output, &input[..n])
 }

@@ -1,13 +1,15 @@
 -- The number read digit by digit, each time the number so far times the radix and the digit, is the number that the definition gives.
-use Prim.Native.Nat.{ℕ, suc, ◌+◌, ◌*◌, ◌^◌, ◌<◌, ◌≤◌}
+use Prim.Native.Nat.{ℕ, suc, ◌+◌, ◌-◌, ◌*◌, ◌^◌, ◌<◌, ◌≤◌}
 use mathlib.Core.Path.{◌≡◌, refl, sym, ap, ◌∙◌}
 use mathlib.Core.List.{List, [], ◌∷◌, ◌++◌, map, append-nil, append_assoc}
 use native.Mathlib.Decide.{dec_le, dec_lt}
 use native.Mathlib.Numerals.{add-one}
-use native.Mathlib.Nat.{add-mul, mul_assoc, mul_comm, pow-zero, pow-succ', mul-one, add-zero, zero-add, zero-mul}
+use native.Mathlib.Nat.{add-mul, mul_assoc, mul_comm, pow-zero, pow-succ', mul-one, add-zero, zero-add, zero-mul, mul-le-mul_left}
+use lib.Dec.{leb}
+use mathlib.Core.Bool.{Bool, true, false, not}
 use lib.ListN.{length, take, length-append}
 use lib.Seq.{get_or-append_seam}
-use borrow.Author.Tests.{lt-ltb, le-ltb, le-leb, lt-leb}
+use borrow.Author.Tests.{lt-ltb, le-ltb, le-leb, lt-leb, leb-true, leb-false, not-true, not-false}
 use native.Mathlib.Omega.{arith}
 use Rattle.std.specs.Prelude.{Result, Ok, Err}
 use Rattle.ints.specs.Spelling.{digit_of, value_of}
@@ -85,10 +87,10 @@ module _ (radix : ℕ) (sign : Sign) where
   unfolding run
   run-on size b bs p = rw (p, run)
 
-  run-wrong : (size b : ℕ) (bs : List ℕ) {f : IntFault} → judged radix sign (digit_of b) (size * radix + digit_of b) ≡ wrong f → run size (b ∷ bs) ≡ Err f
+  pub run-wrong : (size b : ℕ) (bs : List ℕ) {f : IntFault} → judged radix sign (digit_of b) (size * radix + digit_of b) ≡ wrong f → run size (b ∷ bs) ≡ Err f
   run-wrong size b bs p = run-stops size b bs (grown-wrong size b p)
 
-  run-right : (size b : ℕ) (bs : List ℕ) → judged radix sign (digit_of b) (size * radix + digit_of b) ≡ right → run size (b ∷ bs) ≡ run (size * radix + digit_of b) bs
+  pub run-right : (size b : ℕ) (bs : List ℕ) → judged radix sign (digit_of b) (size * radix + digit_of b) ≡ right → run size (b ∷ bs) ≡ run (size * radix + digit_of b) bs
   run-right size b bs p = run-on size b bs (grown-right size b p)
 
   -- the definition's answer from the place after `done` on
@@ -124,3 +126,14 @@ module _ (radix : ℕ) (sign : Sign) where
   pub run-all : (bs : List ℕ) → number_of radix sign bs ≡ run 0 bs
   unfolding number_of rest value_of
   run-all bs = sym (run-rest [] bs)
+
+-- whether a product is within a limit: by a bound, and as the code's test of it says (`has_room`)
+module _ (limit radix size : ℕ) where
+  pub room_small : radix ≤ 16 → 2 ^ 63 - 1 ≤ limit → size < 2 ^ 59 → true ≡ leb (size * radix) limit
+  room_small p q r = sym (le-leb (size * radix) limit (omega (arith, mul-le-mul_left size p)))
+
+  pub there-is-room : {t : Bool} → t ≡ leb (size * radix) limit → not t ≡ false → size * radix ≤ limit
+  there-is-room {t} p q = leb-true (size * radix) limit (sym p ∙ not-false t q)
+
+  pub there-is-none : {t : Bool} → t ≡ leb (size * radix) limit → not t ≡ true → limit < size * radix
+  there-is-none {t} p q = leb-false (size * radix) limit (sym p ∙ not-true t q)

@@ -5,8 +5,8 @@ ghost use Rattle.kinds.specs.Operators.{level_of};
 ghost use Rattle.kinds.specs.Listing.{name_place, name_bytes};
 ghost use Rattle.kinds.specs.Row.{Row};
 
-// An entry is the place of the listing name (two digits), the binary level (one) and 1 for trivia. They are packed, since a constant array may be built anew
-// at each call (docs/DECISIONS.md): three would be slower.
+// An entry is the place of the listing name (two digits), the binary level (one) and 1 for trivia. They are packed, since
+// the older kit built a constant array anew at each call; in today's a look-up is a compare and a load (docs/DECISIONS.md).
 const TABLE: [u16; 79] = [
     0x0001, // LineComment
     0x0001, // BlockComment

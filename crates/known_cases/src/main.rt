@@ -4,12 +4,15 @@
 
 use answer::answer;
 use listing::LENT_OUT;
-use std::alloc::{AllocError, Global};
+use pieces::Unfailing;
 use std::io;
-use std::io::Write;
+use std::io::{Cursor, Write};
 
 // A token's kind, and the bytes that it takes: the tokens of a sheet lie side by side.
 type Token = (u8, u8);
+
+// The room for a bundle: the longest here has 109 bytes.
+const ROOM: usize = 512;
 
 const SHEETS: [(&[u8], &[Token]); 20] = [
     // These are also in the proved table.
@@ -104,42 +107,51 @@ const SHEETS: [(&[u8], &[Token]); 20] = [
 ];
 
 // A count in four bytes, the lowest first. `words` has the same lines: a crate for them would be no plainer.
-fn put_count(bundle: &mut Vec<u8>, count: usize) -> Result<(), AllocError> {
-    bundle.extend_from_slice(&u32::try_from(count).unwrap_or(u32::MAX).to_le_bytes())
+fn put_count(bundle: &mut impl Write, count: usize) -> io::Result<()> {
+    bundle.write_all(&u32::try_from(count).unwrap_or(u32::MAX).to_le_bytes())
 }
 
 // The bundle of a sheet.
-fn bundle_of(alloc: Global, text: &[u8], tokens: &[Token]) -> Result<Vec<u8>, AllocError> {
-    let mut bundle = Vec::new(alloc);
-    put_count(&mut bundle, text.len())?;
-    bundle.extend_from_slice(text)?;
-    put_count(&mut bundle, tokens.len())?;
+fn put_bundle(bundle: &mut impl Write, text: &[u8], tokens: &[Token]) -> io::Result<()> {
+    put_count(bundle, text.len())?;
+    bundle.write_all(text)?;
+    put_count(bundle, tokens.len())?;
     let mut start = 0u32;
     for &(kind, length) in tokens {
         let end = start.wrapping_add(u32::from(length));
-        bundle.push(kind)?;
-        bundle.extend_from_slice(&start.to_le_bytes())?;
-        bundle.extend_from_slice(&end.to_le_bytes())?;
+        bundle.write_all(&[kind])?;
+        bundle.write_all(&start.to_le_bytes())?;
+        bundle.write_all(&end.to_le_bytes())?;
         start = end;
     }
-    Ok(bundle)
+    Ok(())
 }
 
-// A sheet's text after a mark, and its listing.
-fn list(alloc: Global, output: &mut impl Write, text: &[u8], tokens: &[Token]) -> io::Result<()> {
-    output.write_all(b"> ")?;
-    output.write_all(text)?;
-    output.write_all(b"\n")?;
-    let bundle = bundle_of(alloc, text, tokens)?;
+// A bundle's listing. A function of its own: behind other writes the compiler clears the buffer twice.
+fn list_bundle(output: &mut impl Write, bundle: &[u8]) -> io::Result<()> {
     let mut out = [0u8; LENT_OUT];
-    let end = answer(&bundle, &mut out);
+    let end = answer(bundle, &mut out);
     output.write_all(out.get(..end).unwrap_or_default())
 }
 
+// A sheet's text after a mark, and its listing.
+fn list(output: &mut impl Write, text: &[u8], tokens: &[Token]) -> io::Result<()> {
+    output.write_all(b"> ")?;
+    output.write_all(text)?;
+    output.write_all(b"\n")?;
+    let mut room = [0u8; ROOM];
+    let mut bundle = Cursor::new(&mut room[..]);
+    put_bundle(&mut bundle, text, tokens)?;
+    let n = bundle.position() as usize;
+    list_bundle(output, room.get(..n).unwrap_or_default())
+}
+
 fn main(rt: HostRuntime) -> io::Result<()> {
-    let mut output = io::writer(&rt);
+    let mut output = Unfailing {
+        output: io::writer(&rt),
+    };
     for (text, tokens) in SHEETS {
-        list(rt.alloc(), &mut output, text, tokens)?;
+        list(&mut output, text, tokens)?;
     }
     Ok(())
 }

@@ -2,6 +2,7 @@
 #![tactic(auto)]
 
 use listing::Counts;
+use pieces::Unfailing;
 use std::io;
 use std::io::Write;
 
@@ -49,7 +50,9 @@ fn list(output: &mut impl Write, case: &[u32; CASE]) -> io::Result<()> {
 fn main(rt: HostRuntime) -> io::Result<()> {
     let mut input = [0u8; INPUT];
     let n = pieces::fill(&mut rt.reader(), &mut input);
-    let mut output = io::writer(&rt);
+    let mut output = Unfailing {
+        output: io::writer(&rt),
+    };
     let (cases, _) = input[..n].as_chunks::<CASE_BYTES>();
     for case in cases.iter().take(CASES) {
         list(&mut output, &words_of(case))?;

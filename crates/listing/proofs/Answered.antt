@@ -1,7 +1,7 @@
 -- A listing that was measured first: refused where the buffer is too short for it, written where it is not.
 -- Assumes nothing.
 use mathlib.Core.Path.{◌≡◌, refl, sym, ap, ◌∙◌}
-use mathlib.Core.List.{List}
+use mathlib.Core.List.{List, [], ◌∷◌, ◌++◌}
 use Prim.Native.Nat.{ℕ, ◌+◌, ◌<◌, ◌≤◌, min}
 use native.Mathlib.Omega.{arith}
 use lib.ListN.{length}
@@ -11,6 +11,11 @@ use Rattle.listing.specs.Page.{emits}
 use Rattle.std.specs.Prelude.{Option, Some, None, IsSome}
 use Rattle.listing.specs.Answers.{wrote, short, as_listed, written}
 use Rattle.listing.proofs.Pages.{emits-at, emits-front}
+
+-- nothing in front of a buffer
+pub none_before : (ys out : List ℕ) → length ys ≡ 0 → ys ++ out ≡ out
+none_before [] out k = refl
+none_before (y ∷ ys) out k = absurd (omega arith)
 
 module _ (b out : List ℕ) (p : Page) {m : Page} (e : m ≡ emits b p) (z : p.at ≡ 0) (r : p.room ≡ length out + 1) where
   counted : m.at ≡ min (length b) (length out + 1)

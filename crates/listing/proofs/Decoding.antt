@@ -1,19 +1,32 @@
 -- Filling a buffer from its front, and each way through decoding a bundle.
 -- Assumes nothing.
-use mathlib.Core.Path.{◌≡◌, refl, sym, ap}
+use mathlib.Core.Path.{◌≡◌, refl, sym, ap, ◌∙◌}
 use mathlib.Core.List.{List, [], ◌∷◌, ◌++◌, append_assoc}
 use mathlib.Core.Bool.{true, false}
 use Prim.Native.Nat.{ℕ, zero, suc, ◌+◌, ◌-◌, ◌*◌, ◌/◌, ◌<◌, ◌≤◌}
 use native.Mathlib.Omega.{arith}
 use native.Mathlib.Numerals.{add-one}
-use lib.ListN.{length, get_or, set, drop, length-append}
-use lib.Seq.{drop-cons, set_at}
+use lib.ListN.{length, get_or, set, take, drop, length-drop, length-append}
+use lib.Seq.{drop-cons, take-suc, get_or-drop, set_at, length-take-le}
 use borrow.Author.Tests.{le-leb, lt-leb, eq-eqb, ne_eqb}
 use Rattle.listing.specs.Bundle.{little, tokens_at, text_count, token_count, fits, sheet, refused, copied, token_words, decoded_into}
 
 -- one more element behind the n that stand at the buffer's front
 pub front-on : (xs buffer : List ℕ) (n a : ℕ) → length xs ≡ n → n < length buffer → set (xs ++ drop n buffer) n a ≡ (xs ++ (a ∷ [])) ++ drop (n + 1) buffer
 front-on xs buffer n a e h = rw (add-one n, drop-cons buffer n 0 h, set_at xs (get_or buffer n 0) (drop (suc n) buffer) a n e, append_assoc xs (a ∷ []) (drop (suc n) buffer))
+
+-- one byte more of the text, as it is copied to the buffer's front
+module _ (b : List ℕ) (k : ℕ) (buffer : List ℕ) where
+  pub copied_none : copied b k 0 buffer ≡ buffer
+  unfolding copied
+  copied_none = refl
+
+  pub copied_on : (i : ℕ) {ys : List ℕ} → ys ≡ copied b k i buffer → k + i < length b → i < length buffer → set ys i (get_or b (k + i) 0) ≡ copied b k (i + 1) buffer
+  unfolding copied
+  copied_on i y h g =
+      let l : i < length (drop k b) = simp length-drop (omega arith) in
+      let e : length (take i (drop k b)) ≡ i = length-take-le i (drop k b) (omega arith) in
+      rw y (front-on (take i (drop k b)) buffer i (get_or b (k + i) 0) e g ∙ rw (add-one i, take-suc (drop k b) i 0 l, get_or-drop k b i 0))
 
 -- one token more
 pub tokens-length : (b : List ℕ) (i m : ℕ) → length (tokens_at b i m) ≡ 3 * m

@@ -3,6 +3,7 @@ pub mod EffectPaths
 pub mod FormPlaces
 pub mod ImportPaths
 pub mod ImportTakes
+pub mod NumberPaths
 pub mod Placed
 pub mod RecordPaths
 pub mod RecoveryPaths

@@ -2,7 +2,9 @@
 use Rattle.std.specs.Prelude.{Result}
 use mathlib.Core.Path.{◌≡◌, refl, ap}
 use mathlib.Core.Bool.{Bool, true, false}
-use Prim.Native.Nat.{ℕ, zero, suc}
+use mathlib.Core.List.{[], ◌∷◌}
+use Prim.Native.Nat.{ℕ, zero, suc, ◌<◌}
+use lib.ListN.{get_or-eq_default}
 use lib.Dec.{ltb}
 use borrow.Author.Tests.{eq-eqb, ne_eqb}
 use Rattle.cursor.specs.declared.Parser.{Parser}
@@ -22,12 +24,23 @@ use Rattle.parts.specs.declared.values.Called.{Called}
 use Rattle.parts.specs.declared.values.Expr.{Expr}
 use Rattle.parts.specs.declared.values.Expr.TheVariants as exprs
 use Rattle.parts.specs.Forms as forms
+use Rattle.parts.specs.Members as members
+use Rattle.parts.specs.Members.{member_at}
 use Rattle.parts.specs.Values.{link_of, member_of, uncounted}
 use Rattle.parts.specs.Records.{couple, row_record, list_record, wrapped, block_record, fn_record, function_record, handler_record, handlers_flagged, if_record, round_record, call_record, member_record}
+
+-- what goes on from an answer that is told apart, whatever it is read as
+pub read_as : {A B C : Type 0} (f : A → World → Out B) {r v : A} (w : World) (k : State → World → B → Out C) → r ≡ v → bind (f r w) k ≡ bind (f v w) k
+read_as f w k p = ap (λ r. bind (f r w) k) p
 
 -- what goes on from an answer that is handed over, once it is told apart
 pub handed : {A B : Type 0} (p : Parser) (k : State → World → A → Out B) {r v : Result A declared.Stop} → r ≡ v → bind (ended p r) k ≡ bind (ended p v) k
 handed p k q = ap (λ r. bind (ended p r) k) q
+
+-- past the chain the member's kind is that of `[x]`, meta or not
+pub kind-none : (which : ℕ) (meta : Bool) → 2 < which → member_at which meta ≡ 0
+kind-none which false h = get_or-eq_default (members.Bracket ∷ members.Dot ∷ members.DoubleColon ∷ []) 0 h
+kind-none which true h = get_or-eq_default (members.BracketMeta ∷ members.DotMeta ∷ members.DoubleColonMeta ∷ []) 0 h
 
 -- a block without a record over it is as its own record is
 pub block-alone : (o : Out ℕ) (inside wrap from : ℕ) (row : Kids) (s : State) (w : World) {flags : ℕ} → flags ≡ flagged row.count 0 false false → wrap ≡ 0 → o ≡ close node.Block inside 0 0 flags row.first s w → block_record inside wrap from row s w ≡ o

@@ -24,8 +24,12 @@ use Rattle.types.specs.Types.{params, closure_params}
 use Rattle.parts.specs.declared.values.Expr.{Expr}
 use Rattle.parts.specs.declared.values.Expr.TheVariants as exprs
 use Rattle.parts.specs.Forms as forms
-use Rattle.parts.specs.Values.{link_of}
+use Rattle.parts.specs.Values.{link_of, to_assign_left}
 use Rattle.parts.specs.Steps.{items_end, checked_type, any_params, braced, no_member, pound, meta_end, lit_key, paren_key_at, paren_key, leaf, name_turn, names, loop_names, pattern_turn, case_patterns, type_checked, type_check_at, type_check}
+
+-- an expression that is neither a name nor a member of one can't be assigned to
+pub assign_other : {x : Expr} {link : ℕ} → x ≡ exprs.Other link → to_assign_left x ≡ None
+assign_other p = rw p
 
 -- how lists end
 module _ (k : ℕ) where

@@ -8,7 +8,7 @@ use Rattle.std.proofs.Common.{◌≡◌, ℕ, ◌<◌, refl, sym, ap, ◌∙◌,
 use Rattle.cursor.specs.declared.Parser.{Parser}
 use Rattle.cursor.specs.declared.Stop.{Stop}
 use Rattle.cursor.specs.Answers.{ended}
-use Rattle.cursor.proofs.Told.{Settled, Same, One, one, alike, Apart, one_turn}
+use Rattle.cursor.proofs.Told.{Settled, Same, One, one, one_held, alike, Apart, one_turn}
 use Rattle.parts.specs.Answers.{as_turn}
 use Rattle.parts.specs.declared.forms.Form.{Form}
 use Rattle.parts.specs.declared.forms.Form.TheVariants as forms
@@ -21,6 +21,7 @@ use Rattle.parts.proofs.forms.Opening.at.Reads as opening-at
 use Rattle.parts.proofs.effects.effect_stmt.Reads as effect-stmt
 use Rattle.parts.proofs.imports.import_stmt.Reads as import-stmt
 use Rattle.parts.proofs.records.atom_expr.Reads as atom-expr
+use Rattle.parts.proofs.records.atom_expr_of.Reads as atom-expr-of
 use Rattle.parts.proofs.records.couple.Reads as couple
 use Rattle.parts.proofs.records.row_record.Reads as row-record
 use Rattle.parts.proofs.records.list_record.Reads as list-record
@@ -33,8 +34,10 @@ use Rattle.parts.proofs.records.handlers_flagged.Reads as handlers-flagged
 use Rattle.parts.proofs.records.if_record.Reads as if-record
 use Rattle.parts.proofs.records.loop_record.Reads as loop-record
 use Rattle.parts.proofs.records.round_record.Reads as round-record
+use Rattle.parts.proofs.records.round_record_of.Reads as round-record-of
 use Rattle.parts.proofs.records.call_record.Reads as call-record
 use Rattle.parts.proofs.records.member_record.Reads as member-record
+use Rattle.parts.proofs.records.member_record_of.Reads as member-record-of
 use Rattle.parts.proofs.recovery.undone.Reads as undone
 use Rattle.parts.proofs.recovery.recovered.Reads as recovered
 use Rattle.parts.proofs.recovery.after_stmt.Reads as after-stmt
@@ -45,16 +48,25 @@ use Rattle.parts.proofs.steps.question.Reads as question
 use Rattle.parts.proofs.steps.no_member.Reads as no-member
 use Rattle.parts.proofs.steps.pound.Reads as pound
 use Rattle.parts.proofs.steps.meta_end.Reads as meta-end
+use Rattle.parts.proofs.steps.meta_end_of.Reads as meta-end-of
 use Rattle.parts.proofs.steps.items_end.Reads as items-end
+use Rattle.parts.proofs.steps.items_end_of.Reads as items-end-of
 use Rattle.parts.proofs.steps.operator_of.Reads as operator-of
 use Rattle.parts.proofs.steps.lit_key.Reads as lit-key
 use Rattle.parts.proofs.steps.paren_key.Reads as paren-key
 use Rattle.parts.proofs.steps.leaf.Reads as leaf
+use Rattle.parts.proofs.steps.leaf_of.Reads as leaf-of
 use Rattle.parts.proofs.steps.loop_names.Reads as loop-names
+use Rattle.parts.proofs.steps.loop_names_of.Reads as loop-names-of
 use Rattle.parts.proofs.steps.case_patterns.Reads as case-patterns
 use Rattle.parts.proofs.steps.type_check.Reads as type-check
 use Rattle.parts.proofs.values.Expr.link.Reads as link-of
 use Rattle.parts.proofs.values.Expr.assign_left.Reads as to-assign-left
+
+-- a contract admits one answer only. `x` and `y` are what is lent, on return
+module _ {K G B X : Type 0} (Post : K → G → B → X → Type 0) where
+  abbrev pub OneAnswer : Type 0
+  OneAnswer = (κs : K) (args : G) (r s : B) (x y : X) → Post κs args r x → Post κs args s y → r ≡ s
 
 -- a turn's two answers are one, and what the parser holds
 abbrev pub OneTurn : {A : Type 0} → Parser → Parser → Result (ControlFlow A A) Stop → Result (ControlFlow A A) Stop → Type 0
@@ -67,11 +79,17 @@ itself a b h = h
 pub one-atom-expr : (κs : _) (args : _) (r s : _) (x y : _) → atom-expr.Post κs args r x → atom-expr.Post κs args s y → r ≡ s
 one-atom-expr κs args r s x y p q = p ∙ sym q
 
+pub one-atom-expr-of : (κs : _) (args : _) (r s : _) (x y : _) → atom-expr-of.Post κs args r x → atom-expr-of.Post κs args s y → r ≡ s
+one-atom-expr-of κs args r s x y p q = p ∙ sym q
+
 pub one-alone : (κs : _) (args : _) (r s : _) (x y : _) → alone.Post κs args r x → alone.Post κs args s y → r ≡ s
 one-alone κs args r s x y p q = p ∙ sym q
 
 pub one-items-end : (κs : _) (args : _) (r s : _) (x y : _) → items-end.Post κs args r x → items-end.Post κs args s y → r ≡ s
 one-items-end κs args r s x y p q = p ∙ sym q
+
+pub one-items-end-of : (κs : _) (args : _) (r s : _) (x y : _) → items-end-of.Post κs args r x → items-end-of.Post κs args s y → r ≡ s
+one-items-end-of κs args r s x y p q = p ∙ sym q
 
 pub one-operator-of : (κs : _) (args : _) (r s : _) (x y : _) → operator-of.Post κs args r x → operator-of.Post κs args s y → r ≡ s
 one-operator-of κs args r s x y p q = p ∙ sym q
@@ -164,8 +182,12 @@ one-loop-record κs args r s x y p q = one x.0.now y.0.now r s p.0 q.0
 pub one-round-record : (κs : _) (args : _) (r s : _) (x y : _) → round-record.Post κs args r x → round-record.Post κs args s y → One x.0.now y.0.now r s
 one-round-record κs args r s x y p q = one x.0.now y.0.now r s p.0 q.0
 
-pub one-undone : (κs : _) (args : _) (r s : _) (x y : _) → undone.Post κs args r x → undone.Post κs args s y → One x.0.now y.0.now r s
-one-undone κs args r s x y p q = one x.0.now y.0.now r s p.0 q.0
+pub one-round-record-of : (κs : _) (args : _) (r s : _) (x y : _) → round-record-of.Post κs args r x → round-record-of.Post κs args s y → One x.0.now y.0.now r s
+one-round-record-of κs args r s x y p q = one x.0.now y.0.now r s p.0 q.0
+
+-- it writes no buffer: on a refusal too
+pub one-undone : (κs : _) (args : _) (r s : _) (x y : _) → undone.Post κs args r x → undone.Post κs args s y → (r ≡ s) × Same x.0.now y.0.now
+one-undone κs args r s x y p q = one_held args.0.now x.0.now y.0.now r s p.0 q.0 p.1.1 q.1.1 p.1.0 q.1.0
 
 pub one-recovered : (κs : _) (args : _) (r s : _) (x y : _) → recovered.Post κs args r x → recovered.Post κs args s y → One x.0.now y.0.now r s
 one-recovered κs args r s x y p q = one x.0.now y.0.now r s p.0 q.0
@@ -185,6 +207,9 @@ one-pound κs args r s x y p q = one x.0.now y.0.now r s p.0 q.0
 pub one-meta-end : (κs : _) (args : _) (r s : _) (x y : _) → meta-end.Post κs args r x → meta-end.Post κs args s y → One x.0.now y.0.now r s
 one-meta-end κs args r s x y p q = one x.0.now y.0.now r s p.0 q.0
 
+pub one-meta-end-of : (κs : _) (args : _) (r s : _) (x y : _) → meta-end-of.Post κs args r x → meta-end-of.Post κs args s y → One x.0.now y.0.now r s
+one-meta-end-of κs args r s x y p q = one x.0.now y.0.now r s p.0 q.0
+
 pub one-lit-key : (κs : _) (args : _) (r s : _) (x y : _) → lit-key.Post κs args r x → lit-key.Post κs args s y → One x.0.now y.0.now r s
 one-lit-key κs args r s x y p q = one x.0.now y.0.now r s p.0 q.0
 
@@ -194,8 +219,14 @@ one-paren-key κs args r s x y p q = one x.0.now y.0.now r s p.0 q.0
 pub one-leaf : (κs : _) (args : _) (r s : _) (x y : _) → leaf.Post κs args r x → leaf.Post κs args s y → One x.0.now y.0.now r s
 one-leaf κs args r s x y p q = one x.0.now y.0.now r s p.0 q.0
 
+pub one-leaf-of : (κs : _) (args : _) (r s : _) (x y : _) → leaf-of.Post κs args r x → leaf-of.Post κs args s y → One x.0.now y.0.now r s
+one-leaf-of κs args r s x y p q = one x.0.now y.0.now r s p.0 q.0
+
 pub one-loop-names : (κs : _) (args : _) (r s : _) (x y : _) → loop-names.Post κs args r x → loop-names.Post κs args s y → One x.0.now y.0.now r s
 one-loop-names κs args r s x y p q = one x.0.now y.0.now r s p.0 q.0
+
+pub one-loop-names-of : (κs : _) (args : _) (r s : _) (x y : _) → loop-names-of.Post κs args r x → loop-names-of.Post κs args s y → One x.0.now y.0.now r s
+one-loop-names-of κs args r s x y p q = one x.0.now y.0.now r s p.0 q.0
 
 pub one-case-patterns : (κs : _) (args : _) (r s : _) (x y : _) → case-patterns.Post κs args r x → case-patterns.Post κs args s y → One x.0.now y.0.now r s
 one-case-patterns κs args r s x y p q = one x.0.now y.0.now r s p.0 q.0
@@ -210,6 +241,9 @@ one-call-record κs args r s x y p q = one_turn itself itself x.0.now y.0.now r 
 
 pub one-member-record : (κs : _) (args : _) (r s : _) (x y : _) → member-record.Post κs args r x → member-record.Post κs args s y → OneTurn x.0.now y.0.now r s
 one-member-record κs args r s x y p q = one_turn itself itself x.0.now y.0.now r s p.0 q.0
+
+pub one-member-record-of : (κs : _) (args : _) (r s : _) (x y : _) → member-record-of.Post κs args r x → member-record-of.Post κs args s y → OneTurn x.0.now y.0.now r s
+one-member-record-of κs args r s x y p q = one_turn itself itself x.0.now y.0.now r s p.0 q.0
 
 pub one-after-stmt : (κs : _) (args : _) (r s : _) (x y : _) → after-stmt.Post κs args r x → after-stmt.Post κs args s y → OneTurn x.0.now y.0.now r s
 one-after-stmt κs args r s x y p q = one_turn itself itself x.0.now y.0.now r s p.0 q.0

@@ -19,12 +19,22 @@ use types::items::{Items, NO_KIDS, add_some, close};
 use types::patterns::span_of;
 
 // An atom as an expression, by its form: an Ident is a plain name.
-pub fn atom_expr(form: Form, link: u32) -> Expr
+pub fn atom_expr_of(form: Form, link: u32) -> Expr
     ensures { result ≡ atom_expr (place form) link }
 {
     match form {
         Form::Ident => Expr::Name(link),
         _ => Expr::Other(link),
+    }
+}
+
+// The same by the form's place in the chain, whatever number it is: past the chain it is no name.
+pub fn atom_expr(which: usize, link: u32) -> Expr
+    ensures { result ≡ atom_expr which link }
+{
+    match Form::at(which) {
+        Some(form) => atom_expr_of(form, link),
+        None => Expr::Other(link),
     }
 }
 
@@ -189,7 +199,7 @@ pub fn loop_record(p: &mut Parser<'_>, from: u32, read: Result<u32, Stop>) -> Re
 }
 
 // `while` or `for` over its names, its expression and its block.
-pub fn round_record(
+pub fn round_record_of(
     p: &mut Parser<'_>,
     from: u32,
     form: Form,
@@ -205,6 +215,23 @@ pub fn round_record(
             let flags = flagged(names, 0, false, false);
             close(p, nodes::FOR, from, 0, 0, flags, kids.first)
         }
+    }
+}
+
+// The same by the form's place in the chain, whatever number it is: past the chain it is no `while`, and the record is a `for`.
+pub fn round_record(
+    p: &mut Parser<'_>,
+    from: u32,
+    which: usize,
+    names: u32,
+    kids: Kids,
+) -> Result<u32, Stop>
+    ensures ended { ended p.new result ≡ run (round_record from which names kids) p.old }
+    ensures lent { SameLists p.old p.new }
+{
+    match Form::at(which) {
+        Some(form) => round_record_of(p, from, form, names, kids),
+        None => round_record_of(p, from, Form::For, names, kids),
     }
 }
 
@@ -233,7 +260,7 @@ pub fn call_record(
 
 // A member of an expression, by its opening token and by whether it is a meta member, which has no property. On a plain name and
 // without `?` it may be assigned to.
-pub fn member_record(
+pub fn member_record_of(
     p: &mut Parser<'_>,
     from: u32,
     x: Expr,
@@ -259,6 +286,25 @@ pub fn member_record(
         all.first,
     )?;
     Ok(ControlFlow::Continue(member_of(x, safe, member)))
+}
+
+// The same by the opening token's place in the chain, whatever number it is: past the chain the member's kind is that of `[x]`, meta or not.
+pub fn member_record(
+    p: &mut Parser<'_>,
+    from: u32,
+    x: Expr,
+    safe: Option<Span>,
+    which: usize,
+    meta: bool,
+    link: u32,
+) -> Result<ControlFlow<Expr, Expr>, Stop>
+    ensures ended { ended p.new (as_turn result) ≡ run (member_record from safe (member_at which meta) x link) p.old }
+    ensures lent { SameLists p.old p.new }
+{
+    match Opening::at(which) {
+        Some(opening) => member_record_of(p, from, x, safe, opening, meta, link),
+        None => member_record_of(p, from, x, safe, Opening::Bracket, false, link),
+    }
 }
 
 // Rust's MemberKind, as docs/LAYOUT.md numbers it: the three meta ones stand behind the three others.

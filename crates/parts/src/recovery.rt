@@ -1,5 +1,5 @@
 // Undone attempts, and what follows a statement, good or bad.
-ghost use Rattle.std.specs.Prelude.{◌≡◌};
+ghost use Rattle.std.specs.Prelude.{◌≡◌, OnErr};
 ghost use Rattle.cursor.specs.Answers.{sheet_of, run, ended, stop_of, SameBuffers, SameLoans, SameNodes, SameRecords};
 ghost use Rattle.parts.specs.Answers.{as_turn};
 ghost use Rattle.parts.specs.Recovery.{undone, skip, recovering, line_end, after_stmt};
@@ -12,6 +12,7 @@ use types::items::add_some;
 pub fn undone(p: &mut Parser<'_>, mark: State, stop: Stop) -> Result<(), Stop>
     ensures ended { ended p.new result ≡ undone mark (stop_of p.old stop) }
     ensures lent { SameBuffers p.old p.new }
+    ensures stays { OnErr result (p.new.state ≡ p.old.state) }
 {
     match stop {
         Stop::Fault(_) => {

@@ -92,7 +92,7 @@ pub fn pound(p: &mut Parser<'_>, sheet: &Sheet<'_>) -> Result<bool, Stop>
 }
 
 // Behind the `#` of a meta member: the bracket's end, where it is one. It has no property.
-pub fn meta_end(p: &mut Parser<'_>, sheet: &Sheet<'_>, opening: Opening) -> Result<u32, Stop>
+pub fn meta_end_of(p: &mut Parser<'_>, sheet: &Sheet<'_>, opening: Opening) -> Result<u32, Stop>
     ensures ended { ended p.new result ≡ run (meta_end (sheet_of sheet.now) (opens opening)) p.old }
     ensures lent { SameRecords p.old p.new }
 {
@@ -106,14 +106,36 @@ pub fn meta_end(p: &mut Parser<'_>, sheet: &Sheet<'_>, opening: Opening) -> Resu
     }
 }
 
+// The same by the opening token's place in the chain, whatever number it is: past the chain there is no bracket, and so no end of one.
+pub fn meta_end(p: &mut Parser<'_>, sheet: &Sheet<'_>, which: usize) -> Result<u32, Stop>
+    ensures ended { ended p.new result ≡ run (meta_end (sheet_of sheet.now) which) p.old }
+    ensures lent { SameRecords p.old p.new }
+{
+    match Opening::at(which) {
+        Some(opening) => meta_end_of(p, sheet, opening),
+        None => meta_end_of(p, sheet, Opening::Dot),
+    }
+}
+
 // The kind that ends a list.
-pub fn items_end(rule: ItemRule) -> u8
+pub fn items_end_of(rule: ItemRule) -> u8
     ensures { result ≡ items_end (item_rule rule) }
 {
     match rule {
         ItemRule::Arguments => kinds::CLOSE_PAREN,
         ItemRule::Elements => kinds::CLOSE_BRACKET,
         ItemRule::Properties => kinds::CLOSE_BRACE,
+    }
+}
+
+// The same by the item rule's number, whatever it is: past the last one a list ends as a table's does.
+pub fn items_end(rule: u32) -> u8
+    ensures { result ≡ items_end rule }
+{
+    match rule {
+        0 => items_end_of(ItemRule::Arguments),
+        1 => items_end_of(ItemRule::Elements),
+        _ => items_end_of(ItemRule::Properties),
     }
 }
 
@@ -157,7 +179,7 @@ pub fn paren_key(p: &mut Parser<'_>, sheet: &Sheet<'_>, from: u32, link: u32) ->
 }
 
 // `break` and `continue`.
-pub fn leaf(p: &mut Parser<'_>, sheet: &Sheet<'_>, from: u32, form: Form) -> Result<u32, Stop>
+pub fn leaf_of(p: &mut Parser<'_>, sheet: &Sheet<'_>, from: u32, form: Form) -> Result<u32, Stop>
     ensures ended { ended p.new result ≡ run (leaf (sheet_of sheet.now) from (place form)) p.old }
     ensures lent { SameLists p.old p.new }
 {
@@ -168,8 +190,19 @@ pub fn leaf(p: &mut Parser<'_>, sheet: &Sheet<'_>, from: u32, form: Form) -> Res
     }
 }
 
+// The same by the form's place in the chain, whatever number it is: past the chain it is no `break`.
+pub fn leaf(p: &mut Parser<'_>, sheet: &Sheet<'_>, from: u32, which: usize) -> Result<u32, Stop>
+    ensures ended { ended p.new result ≡ run (leaf (sheet_of sheet.now) from which) p.old }
+    ensures lent { SameLists p.old p.new }
+{
+    match Form::at(which) {
+        Some(form) => leaf_of(p, sheet, from, form),
+        None => leaf_of(p, sheet, from, Form::Continue),
+    }
+}
+
 // The names of a `for` and its `in`, by the rule of parse_items; a `while` has none.
-pub fn loop_names(p: &mut Parser<'_>, sheet: &Sheet<'_>, form: Form) -> Result<Kids, Stop>
+pub fn loop_names_of(p: &mut Parser<'_>, sheet: &Sheet<'_>, form: Form) -> Result<Kids, Stop>
     ensures ended { ended p.new result ≡ run (loop_names (sheet_of sheet.now) (place form)) p.old }
     ensures lent { SameErrors p.old p.new }
 {
@@ -180,6 +213,17 @@ pub fn loop_names(p: &mut Parser<'_>, sheet: &Sheet<'_>, form: Form) -> Result<K
             p.expect(sheet, kinds::IN)?;
             Ok(kids)
         }
+    }
+}
+
+// The same by the form's place in the chain, whatever number it is: past the chain it is no `while`, and names are read.
+pub fn loop_names(p: &mut Parser<'_>, sheet: &Sheet<'_>, which: usize) -> Result<Kids, Stop>
+    ensures ended { ended p.new result ≡ run (loop_names (sheet_of sheet.now) which) p.old }
+    ensures lent { SameErrors p.old p.new }
+{
+    match Form::at(which) {
+        Some(form) => loop_names_of(p, sheet, form),
+        None => loop_names_of(p, sheet, Form::For),
     }
 }
 

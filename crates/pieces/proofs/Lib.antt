@@ -1,3 +1,4 @@
 pub mod Filled
+pub mod Digits
 pub mod Unique
 pub mod RuledOut

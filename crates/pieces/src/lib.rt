@@ -4,12 +4,15 @@
 #![tactic(auto)]
 
 ghost use Rattle.std.specs.Prelude.{◌≡◌, ◌≤◌, ◌++◌, length, take, IfSome, OnOk};
+ghost use Rattle.std.specs.Fmt.{decimal};
 ghost use Rattle.std.specs.Io.KnownBytes.{Appends, Consumes};
 ghost use Rattle.pieces.specs.Pieces.{spelled, four_bytes, count_line, IsPiece, Fits};
 
-use std::alloc::Global;
+mod unfailing;
+
 use std::io;
 use std::io::{Read, Write};
+pub use unfailing::Unfailing;
 
 // The number that four bytes spell, the lowest first.
 pub fn word(a: u8, b: u8, c: u8, d: u8) -> u32
@@ -57,37 +60,103 @@ pub fn read<R: Read>(input: &mut R, room: &mut [u8]) -> Option<usize>
     Some(fill(input, &mut room[..size]))
 }
 
-// Writes a piece.
-pub fn write<W: Write>(output: &mut W, bytes: &[u8]) -> io::Result<()>
+// Writes a piece, or hands on what failed.
+pub fn try_write<W: Write>(output: &mut W, bytes: &[u8]) -> io::Result<()>
     ensures { OnOk result (Appends (W.contents output.old) (W.contents output.new) (four_bytes (length bytes.now) ++ bytes.now)) }
 {
     output.write_all(&head_of(bytes.len()))?;
     output.write_all(bytes)
 }
 
-// Writes the last piece: how many sheets the others were.
-pub fn write_count<W: Write>(alloc: Global, output: &mut W, number: u32) -> io::Result<()>
+// Writes a piece, and passes over a write that fails: the bytes are tried though their length was not taken. Nothing can be promised of what
+// the output then holds.
+pub fn write<W: Write>(output: &mut W, bytes: &[u8]) {
+    let _ = try_write(&mut Unfailing { output }, bytes);
+}
+
+// How many digits a number has.
+fn digits_of(number: u32) -> usize
+    ensures { result ≡ length (decimal number) }
+{
+    match number.checked_ilog10() {
+        Some(log) => log as usize + 1,
+        None => 1,
+    }
+}
+
+// Writes the last piece, how many sheets the others were, or hands on what failed.
+pub fn try_write_count<W: Write>(output: &mut W, number: u32) -> io::Result<()>
     ensures { OnOk result (Appends (W.contents output.old) (W.contents output.new) (four_bytes (length (count_line number)) ++ count_line number)) }
 {
-    let text = format!(in alloc; "{number} sheets\n")?;
-    write(output, text.as_bytes())
+    output.write_all(&head_of(digits_of(number) + b" sheets\n".len()))?;
+    write!(output, "{number} sheets\n")
+}
+
+// Writes the last piece, and passes over a write that fails, as `write` does.
+pub fn write_count<W: Write>(output: &mut W, number: u32) {
+    let _ = try_write_count(&mut Unfailing { output }, number);
 }
 
 #[cfg(test)]
 mod tests {
-    use super::{read, write, write_count};
+    use super::{read, try_write, try_write_count, write, write_count};
     use std::io;
+    use std::io::Write;
 
-    // That there is memory for the last piece, no contract says.
+    // Takes nothing of its first write, and all of the others: how many bytes.
+    #[derive(Drop)]
+    struct Late {
+        begun: bool,
+        taken: usize,
+    }
+
+    impl Write for Late {
+        fn write(&mut self, buf: &[u8]) -> io::Result<usize> {
+            if !self.begun {
+                self.begun = true;
+                return Ok(0);
+            }
+            self.taken = self.taken.wrapping_add(buf.len());
+            Ok(buf.len())
+        }
+
+        fn flush(&mut self) -> io::Result<()> {
+            Ok(())
+        }
+    }
+
+    const LATE: Late = Late {
+        begun: false,
+        taken: 0,
+    };
+
+    #[test]
+    fn the_next_write_is_tried(rt: HostRuntime) {
+        let mut output = LATE;
+        assert!(rt; try_write(&mut output, b"ab").is_err());
+        assert_eq!(rt; output.taken, 0);
+        let mut output = LATE;
+        write(&mut output, b"ab");
+        assert_eq!(rt; output.taken, 2);
+        let mut output = LATE;
+        write_count(&mut output, 5453);
+        assert_eq!(rt; output.taken, 12);
+    }
+
+    // That a writer takes what it has room for, no contract says.
     #[test]
     fn a_stream_there_and_back(rt: HostRuntime) -> io::Result<()> {
         let mut stream = Vec::new(rt.alloc());
-        write(&mut stream, b"ab")?;
-        write_count(rt.alloc(), &mut stream, 5453)?;
+        try_write(&mut stream, b"ab")?;
+        try_write_count(&mut stream, 5453)?;
         assert_eq!(rt;
             stream.as_slice(),
             b"\x02\0\0\0ab\x0c\0\0\05453 sheets\n".as_slice()
         );
+        let mut passed_over = Vec::new(rt.alloc());
+        write(&mut passed_over, b"ab");
+        write_count(&mut passed_over, 5453);
+        assert_eq!(rt; passed_over.as_slice(), stream.as_slice());
         let mut rest = stream.as_slice();
         let mut room = [0u8; 12];
         assert_eq!(rt; read(&mut rest, &mut room), Some(2));

@@ -14,15 +14,15 @@ const ROOM: usize = 29893;
 const PIECES: u32 = 65536;
 
 // Writes the listing of a bundle.
-fn list(output: &mut impl Write, bundle: &[u8]) -> io::Result<()> {
+fn list(output: &mut impl Write, bundle: &[u8]) {
     let mut out = [0u8; LENT_OUT];
     let end = answer(bundle, &mut out);
-    pieces::write(output, out.get(..end).unwrap_or_default())
+    pieces::write(output, out.get(..end).unwrap_or_default());
 }
 
 // The same loop as in `words`: a function for both would take the answer to a piece as a closure, of whose writing its contract could say
 // nothing.
-fn main(rt: HostRuntime) -> io::Result<()> {
+fn main(rt: HostRuntime) {
     let mut input = rt.reader();
     let mut output = io::writer(&rt);
     let mut room = [0u8; ROOM];
@@ -31,8 +31,8 @@ fn main(rt: HostRuntime) -> io::Result<()> {
         let Some(n) = pieces::read(&mut input, &mut room) else {
             break;
         };
-        list(&mut output, &room[..n])?;
+        list(&mut output, &room[..n]);
         count = number;
     }
-    pieces::write_count(rt.alloc(), &mut output, count)
+    pieces::write_count(&mut output, count);
 }

@@ -1,5 +1,5 @@
--- What a number comes to where an enum stands for it. Functions of this crate that were handed a place of a chain or an item rule's number, whatever it was,
--- are handed a value of an enum. For each, every number has a value at which the rule answers the same: so nothing that they said is lost.
+-- What a number comes to where an enum stands for it. Of a function of parts that goes by a place of a chain or by an item rule's number, whatever it is, there is one
+-- beside it that goes by a value of an enum (`leaf` and `leaf_of`). For each, every number has a value at which the rule answers the same: so the two say as much.
 -- Assumes nothing.
 use Rattle.std.proofs.Common.{◌≡◌, ℕ, suc, zero, Bool, true, false, eqb, ltb, refl}
 use Rattle.cursor.specs.declared.Kids.{Kids}

@@ -1,4 +1,4 @@
--- What an item rule's number comes to where an enum stands for it: `type_items` was handed a number, whatever it was, and is handed a `TypeRule`. Every number
+-- What an item rule's number comes to where an enum stands for it: `type_items` of types goes by a number, whatever it is, and `type_items_of` by a `TypeRule`. Every number
 -- has one at which all that the rule of a list asks of it answers the same: an item, the last item, how that one starts, and how the list ends.
 -- Assumes nothing.
 use Rattle.std.proofs.Common.{◌≡◌, ℕ, suc, zero, false, eqb, ne_eqb, arith, refl}

@@ -22,6 +22,7 @@ use Rattle.parts.proofs.values.Expr.assign_left.Reads as to-assign-left
 use Rattle.parts.proofs.forms.Form.at.Reads as form-at
 use Rattle.parts.proofs.forms.Opening.at.Reads as opening-at
 use Rattle.parts.proofs.records.atom_expr.Reads as atom-expr
+use Rattle.parts.proofs.records.atom_expr_of.Reads as atom-expr-of
 use Rattle.parts.proofs.records.couple.Reads as record-couple
 use Rattle.parts.proofs.records.row_record.Reads as row-record
 use Rattle.parts.proofs.records.list_record.Reads as list-record
@@ -34,8 +35,10 @@ use Rattle.parts.proofs.records.handlers_flagged.Reads as handlers-flagged
 use Rattle.parts.proofs.records.if_record.Reads as if-record
 use Rattle.parts.proofs.records.loop_record.Reads as loop-record
 use Rattle.parts.proofs.records.round_record.Reads as round-record
+use Rattle.parts.proofs.records.round_record_of.Reads as round-record-of
 use Rattle.parts.proofs.records.call_record.Reads as call-record
 use Rattle.parts.proofs.records.member_record.Reads as member-record
+use Rattle.parts.proofs.records.member_record_of.Reads as member-record-of
 use Rattle.parts.specs.declared.forms.Form.TheVariants as forms
 use Rattle.parts.specs.declared.forms.Opening.TheVariants as openings
 use Rattle.ruled_out.proofs.Small.{parser, state, span, row, apart, unlike, outcome, word, answer, itself, sort}
@@ -85,11 +88,20 @@ to-assign-left-a-call κs x p = apart assigned p refl
 pub to-assign-left-without-members : (κs : _) (x : _) → to-assign-left.Post κs (sorts.NameMember 5, tt) None x → ⊥
 to-assign-left-without-members κs x p = apart assigned p refl
 
-pub atom-expr-name-as-another : (κs : _) (x : _) → atom-expr.Post κs (forms.Ident, (5, tt)) (sorts.Other 5) x → ⊥
+pub atom-expr-name-as-another : (κs : _) (x : _) → atom-expr.Post κs (1, (5, tt)) (sorts.Other 5) x → ⊥
 atom-expr-name-as-another κs x p = apart sort p refl
 
-pub atom-expr-parentheses-as-a-name : (κs : _) (x : _) → atom-expr.Post κs (forms.OpenParen, (5, tt)) (sorts.Name 5) x → ⊥
+pub atom-expr-name-as-another-by-form : (κs : _) (x : _) → atom-expr-of.Post κs (forms.Ident, (5, tt)) (sorts.Other 5) x → ⊥
+atom-expr-name-as-another-by-form κs x p = apart sort p refl
+
+pub atom-expr-parentheses-as-a-name : (κs : _) (x : _) → atom-expr.Post κs (0, (5, tt)) (sorts.Name 5) x → ⊥
 atom-expr-parentheses-as-a-name κs x p = apart sort p refl
+
+pub atom-expr-parentheses-as-a-name-by-form : (κs : _) (x : _) → atom-expr-of.Post κs (forms.OpenParen, (5, tt)) (sorts.Name 5) x → ⊥
+atom-expr-parentheses-as-a-name-by-form κs x p = apart sort p refl
+
+pub atom-expr-name-past-the-chain : (κs : _) (x : _) → atom-expr.Post κs (15, (5, tt)) (sorts.Name 5) x → ⊥
+atom-expr-name-past-the-chain κs x p = apart sort p refl
 
 -- records over children: of records 1 and 2 the third
 
@@ -190,13 +202,25 @@ pub loop-record-body-left-out : (κs : _) (x : _) → loop-record.Post κs (pars
 unfolding close append write put
 loop-record-body-left-out κs x p h = unlike (word (cell 1 FIRST)) p.0 h refl
 
-pub round-record-while-as-for : (κs : _) (x : _) → round-record.Post κs (parser (built 2), (0, (forms.While, (0, (row 1 2 2, tt))))) (Ok 3) x → get_or x.0.now.nodes.now (cell 2 KIND) 0 ≡ node.For → ⊥
+pub round-record-while-as-for : (κs : _) (x : _) → round-record.Post κs (parser (built 2), (0, (10, (0, (row 1 2 2, tt))))) (Ok 3) x → get_or x.0.now.nodes.now (cell 2 KIND) 0 ≡ node.For → ⊥
 unfolding round_record close append write put
 round-record-while-as-for κs x p h = unlike (word (cell 2 KIND)) p.0 h refl
 
-pub round-record-counts-all-children : (κs : _) (x : _) → round-record.Post κs (parser (built 2), (0, (forms.For, (1, (row 1 2 3, tt))))) (Ok 3) x → get_or x.0.now.nodes.now (cell 2 FLAGS) 0 ≡ 3 → ⊥
+pub round-record-while-as-for-by-form : (κs : _) (x : _) → round-record-of.Post κs (parser (built 2), (0, (forms.While, (0, (row 1 2 2, tt))))) (Ok 3) x → get_or x.0.now.nodes.now (cell 2 KIND) 0 ≡ node.For → ⊥
+unfolding round_record close append write put
+round-record-while-as-for-by-form κs x p h = unlike (word (cell 2 KIND)) p.0 h refl
+
+pub round-record-counts-all-children : (κs : _) (x : _) → round-record.Post κs (parser (built 2), (0, (11, (1, (row 1 2 3, tt))))) (Ok 3) x → get_or x.0.now.nodes.now (cell 2 FLAGS) 0 ≡ 3 → ⊥
 unfolding round_record close append write put
 round-record-counts-all-children κs x p h = unlike (word (cell 2 FLAGS)) p.0 h refl
+
+pub round-record-counts-all-children-by-form : (κs : _) (x : _) → round-record-of.Post κs (parser (built 2), (0, (forms.For, (1, (row 1 2 3, tt))))) (Ok 3) x → get_or x.0.now.nodes.now (cell 2 FLAGS) 0 ≡ 3 → ⊥
+unfolding round_record close append write put
+round-record-counts-all-children-by-form κs x p h = unlike (word (cell 2 FLAGS)) p.0 h refl
+
+pub round-record-while-past-the-chain : (κs : _) (x : _) → round-record.Post κs (parser (built 2), (0, (15, (0, (row 1 2 2, tt))))) (Ok 3) x → get_or x.0.now.nodes.now (cell 2 KIND) 0 ≡ node.While → ⊥
+unfolding round_record close append write put
+round-record-while-past-the-chain κs x p h = unlike (word (cell 2 KIND)) p.0 h refl
 
 -- calls and members
 
@@ -210,11 +234,24 @@ unfolding call_record add_some close append
 call-record-as-another-expression κs x p = apart (answer turned_to) p.0 refl
 
 -- `a?.b`
-pub member-record-safe-and-assigned-to : (κs : _) (x : _) → member-record.Post κs (parser (built 2), (0, (sorts.Name 1, (Some (span 1 2), (openings.Dot, (false, (2, tt))))))) (Ok (Continue (sorts.NameMember 3))) x → ⊥
+pub member-record-safe-and-assigned-to : (κs : _) (x : _) → member-record.Post κs (parser (built 2), (0, (sorts.Name 1, (Some (span 1 2), (1, (false, (2, tt))))))) (Ok (Continue (sorts.NameMember 3))) x → ⊥
 unfolding member_record add_some close add append put
 member-record-safe-and-assigned-to κs x p = apart (answer turned_to) p.0 refl
 
+pub member-record-safe-and-assigned-to-by-opening : (κs : _) (x : _) → member-record-of.Post κs (parser (built 2), (0, (sorts.Name 1, (Some (span 1 2), (openings.Dot, (false, (2, tt))))))) (Ok (Continue (sorts.NameMember 3))) x → ⊥
+unfolding member_record add_some close add append put
+member-record-safe-and-assigned-to-by-opening κs x p = apart (answer turned_to) p.0 refl
+
 -- `a.#`
-pub member-record-meta-as-plain : (κs : _) (x : _) → member-record.Post κs (parser (built 1), (0, (sorts.Name 1, (None, (openings.Dot, (true, (0, tt))))))) (Ok (Continue (sorts.NameMember 2))) x → get_or x.0.now.nodes.now (cell 1 FLAGS) 0 ≡ members.Dot → ⊥
+pub member-record-meta-as-plain : (κs : _) (x : _) → member-record.Post κs (parser (built 1), (0, (sorts.Name 1, (None, (1, (true, (0, tt))))))) (Ok (Continue (sorts.NameMember 2))) x → get_or x.0.now.nodes.now (cell 1 FLAGS) 0 ≡ members.Dot → ⊥
 unfolding member_record add_some close add append write put
 member-record-meta-as-plain κs x p h = unlike (word (cell 1 FLAGS)) p.0 h refl
+
+pub member-record-meta-as-plain-by-opening : (κs : _) (x : _) → member-record-of.Post κs (parser (built 1), (0, (sorts.Name 1, (None, (openings.Dot, (true, (0, tt))))))) (Ok (Continue (sorts.NameMember 2))) x → get_or x.0.now.nodes.now (cell 1 FLAGS) 0 ≡ members.Dot → ⊥
+unfolding member_record add_some close add append write put
+member-record-meta-as-plain-by-opening κs x p h = unlike (word (cell 1 FLAGS)) p.0 h refl
+
+-- past the chain a member's kind is that of `[x]`, meta or not
+pub member-record-meta-past-the-chain : (κs : _) (x : _) → member-record.Post κs (parser (built 1), (0, (sorts.Name 1, (None, (3, (true, (0, tt))))))) (Ok (Continue (sorts.NameMember 2))) x → get_or x.0.now.nodes.now (cell 1 FLAGS) 0 ≡ members.BracketMeta → ⊥
+unfolding member_record add_some close add append write put
+member-record-meta-past-the-chain κs x p h = unlike (word (cell 1 FLAGS)) p.0 h refl

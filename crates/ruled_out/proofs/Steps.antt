@@ -31,12 +31,16 @@ use Rattle.parts.proofs.steps.question.Reads as question
 use Rattle.parts.proofs.steps.no_member.Reads as no-member
 use Rattle.parts.proofs.steps.pound.Reads as pound-read
 use Rattle.parts.proofs.steps.meta_end.Reads as meta-end
+use Rattle.parts.proofs.steps.meta_end_of.Reads as meta-end-of
 use Rattle.parts.proofs.steps.items_end.Reads as items-end
+use Rattle.parts.proofs.steps.items_end_of.Reads as items-end-of
 use Rattle.parts.proofs.steps.operator_of.Reads as operator-of
 use Rattle.parts.proofs.steps.lit_key.Reads as lit-key
 use Rattle.parts.proofs.steps.paren_key.Reads as paren-key
 use Rattle.parts.proofs.steps.leaf.Reads as read-leaf
+use Rattle.parts.proofs.steps.leaf_of.Reads as read-leaf-of
 use Rattle.parts.proofs.steps.loop_names.Reads as loop-names
+use Rattle.parts.proofs.steps.loop_names_of.Reads as loop-names-of
 use Rattle.parts.proofs.steps.case_patterns.Reads as case-patterns
 use Rattle.parts.proofs.steps.type_check.Reads as type-check
 use Rattle.parts.specs.declared.forms.Form.TheVariants as forms
@@ -59,13 +63,25 @@ alone-with-a-list κs x p = apart (λ f. bit f.listed) p refl
 pub alone-as-an-integer : (κs : _) (x : _) → fault-alone.Post κs (kind.Try, (span 0 3, tt)) (record { class = 1; found = kind.Try; span = span 0 3; listed = false }) x → ⊥
 alone-as-an-integer κs x p = apart (λ f. f.class) p refl
 
-pub items-end-of-elements-in-a-parenthesis : (κs : _) (x : _) → items-end.Post κs (lists.Elements, tt) kind.CloseParen x → ⊥
+pub items-end-of-elements-in-a-parenthesis : (κs : _) (x : _) → items-end.Post κs (1, tt) kind.CloseParen x → ⊥
 unfolding items_end
 items-end-of-elements-in-a-parenthesis κs x p = apart itself p refl
 
-pub items-end-of-properties-in-a-bracket : (κs : _) (x : _) → items-end.Post κs (lists.Properties, tt) kind.CloseBracket x → ⊥
+pub items-end-of-elements-in-a-parenthesis-by-rule : (κs : _) (x : _) → items-end-of.Post κs (lists.Elements, tt) kind.CloseParen x → ⊥
+unfolding items_end
+items-end-of-elements-in-a-parenthesis-by-rule κs x p = apart itself p refl
+
+pub items-end-of-properties-in-a-bracket : (κs : _) (x : _) → items-end.Post κs (2, tt) kind.CloseBracket x → ⊥
 unfolding items_end
 items-end-of-properties-in-a-bracket κs x p = apart itself p refl
+
+pub items-end-of-properties-in-a-bracket-by-rule : (κs : _) (x : _) → items-end-of.Post κs (lists.Properties, tt) kind.CloseBracket x → ⊥
+unfolding items_end
+items-end-of-properties-in-a-bracket-by-rule κs x p = apart itself p refl
+
+pub items-end-past-the-rules-in-a-parenthesis : (κs : _) (x : _) → items-end.Post κs (3, tt) kind.CloseParen x → ⊥
+unfolding items_end
+items-end-past-the-rules-in-a-parenthesis κs x p = apart itself p refl
 
 pub operator-of-the-sign : (κs : _) (x : _) → operator-of.Post κs (kind.AddAssign, tt) kind.AddAssign x → ⊥
 unfolding compound_of
@@ -123,13 +139,26 @@ pub pound-left-out : (κs : _) (x : _) → pound-read.Post κs (parser begin, (s
 unfolding pound eat check bump past_trivia past_from is_trivia kind_at range_at count
 pound-left-out κs x p = apart (answer bit) p.0 refl
 
-pub meta-end-without-its-bracket : (κs : _) (x : _) → meta-end.Post κs (parser begin, (sheet (token kind.Ident), (openings.Bracket, tt))) (Ok 0) x → ⊥
+pub meta-end-without-its-bracket : (κs : _) (x : _) → meta-end.Post κs (parser begin, (sheet (token kind.Ident), (0, tt))) (Ok 0) x → ⊥
 unfolding meta_end expect unexpected eat check want kind_at count
 meta-end-without-its-bracket κs x p = apart outcome p.0 refl
 
-pub meta-end-with-a-property : (κs : _) (x : _) → meta-end.Post κs (parser begin, (sheet [], (openings.Dot, tt))) (Ok 1) x → ⊥
+pub meta-end-without-its-bracket-by-opening : (κs : _) (x : _) → meta-end-of.Post κs (parser begin, (sheet (token kind.Ident), (openings.Bracket, tt))) (Ok 0) x → ⊥
+unfolding meta_end expect unexpected eat check want kind_at count
+meta-end-without-its-bracket-by-opening κs x p = apart outcome p.0 refl
+
+pub meta-end-with-a-property : (κs : _) (x : _) → meta-end.Post κs (parser begin, (sheet [], (1, tt))) (Ok 1) x → ⊥
 unfolding meta_end
 meta-end-with-a-property κs x p = apart (answer itself) p.0 refl
+
+pub meta-end-with-a-property-by-opening : (κs : _) (x : _) → meta-end-of.Post κs (parser begin, (sheet [], (openings.Dot, tt))) (Ok 1) x → ⊥
+unfolding meta_end
+meta-end-with-a-property-by-opening κs x p = apart (answer itself) p.0 refl
+
+-- a bracket that is taken where no opening token is known
+pub meta-end-bracket-past-the-chain : (κs : _) (x : _) → meta-end.Post κs (parser begin, (sheet (token kind.CloseBracket), (3, tt))) (Ok 0) x → x.0.now.state ≡ state 1 1 1 0 0 → ⊥
+unfolding meta_end
+meta-end-bracket-past-the-chain κs x p h = strays (λ s. s.at) p.0 h refl
 
 -- keys
 
@@ -152,21 +181,45 @@ paren-key-child-left-out κs x p h = unlike (word FIRST) p.0 h refl
 
 -- atoms
 
-pub leaf-break-as-continue : (κs : _) (x : _) → read-leaf.Post κs (parser begin, (sheet (token kind.Break), (0, (forms.Break, tt)))) (Ok 1) x → get_or x.0.now.nodes.now KIND 0 ≡ node.Continue → ⊥
+pub leaf-break-as-continue : (κs : _) (x : _) → read-leaf.Post κs (parser begin, (sheet (token kind.Break), (0, (12, tt)))) (Ok 1) x → get_or x.0.now.nodes.now KIND 0 ≡ node.Continue → ⊥
 unfolding leaf close bump count put append write
 leaf-break-as-continue κs x p h = unlike (word KIND) p.0 h refl
 
-pub leaf-not-moved : (κs : _) (x : _) → read-leaf.Post κs (parser begin, (sheet (token kind.Break), (0, (forms.Break, tt)))) (Ok 1) x → x.0.now.state ≡ state 0 0 0 1 0 → ⊥
+pub leaf-break-as-continue-by-form : (κs : _) (x : _) → read-leaf-of.Post κs (parser begin, (sheet (token kind.Break), (0, (forms.Break, tt)))) (Ok 1) x → get_or x.0.now.nodes.now KIND 0 ≡ node.Continue → ⊥
+unfolding leaf close bump count put append write
+leaf-break-as-continue-by-form κs x p h = unlike (word KIND) p.0 h refl
+
+pub leaf-not-moved : (κs : _) (x : _) → read-leaf.Post κs (parser begin, (sheet (token kind.Break), (0, (12, tt)))) (Ok 1) x → x.0.now.state ≡ state 0 0 0 1 0 → ⊥
 unfolding leaf close bump past_trivia past_from count append
 leaf-not-moved κs x p h = strays (λ s. s.at) p.0 h refl
 
-pub loop-names-of-while : (κs : _) (x : _) → loop-names.Post κs (parser begin, (sheet (two kind.Ident kind.In), (forms.While, tt))) (Ok (row 1 1 1)) x → ⊥
+pub leaf-not-moved-by-form : (κs : _) (x : _) → read-leaf-of.Post κs (parser begin, (sheet (token kind.Break), (0, (forms.Break, tt)))) (Ok 1) x → x.0.now.state ≡ state 0 0 0 1 0 → ⊥
+unfolding leaf close bump past_trivia past_from count append
+leaf-not-moved-by-form κs x p h = strays (λ s. s.at) p.0 h refl
+
+pub leaf-break-past-the-chain : (κs : _) (x : _) → read-leaf.Post κs (parser begin, (sheet (token kind.Break), (0, (15, tt)))) (Ok 1) x → get_or x.0.now.nodes.now KIND 0 ≡ node.Break → ⊥
+unfolding leaf close bump count put append write
+leaf-break-past-the-chain κs x p h = unlike (word KIND) p.0 h refl
+
+pub loop-names-of-while : (κs : _) (x : _) → loop-names.Post κs (parser begin, (sheet (two kind.Ident kind.In), (10, tt))) (Ok (row 1 1 1)) x → ⊥
 unfolding loop_names
 loop-names-of-while κs x p = apart (answer (λ k. k.count)) p.0 refl
 
-pub loop-names-without-in : (κs : _) (x : _) → loop-names.Post κs (parser begin, (sheet (token kind.Ident), (forms.For, tt))) (Ok (row 1 1 1)) x → ⊥
+pub loop-names-of-while-by-form : (κs : _) (x : _) → loop-names-of.Post κs (parser begin, (sheet (two kind.Ident kind.In), (forms.While, tt))) (Ok (row 1 1 1)) x → ⊥
+unfolding loop_names
+loop-names-of-while-by-form κs x p = apart (answer (λ k. k.count)) p.0 refl
+
+pub loop-names-without-in : (κs : _) (x : _) → loop-names.Post κs (parser begin, (sheet (token kind.Ident), (11, tt))) (Ok (row 1 1 1)) x → ⊥
 unfolding loop_names names name_turn iterate turns ident ident_at expect unexpected eat check want bump past_trivia past_from kind_at range_at count append add
 loop-names-without-in κs x p = apart outcome p.0 refl
+
+pub loop-names-without-in-by-form : (κs : _) (x : _) → loop-names-of.Post κs (parser begin, (sheet (token kind.Ident), (forms.For, tt))) (Ok (row 1 1 1)) x → ⊥
+unfolding loop_names names name_turn iterate turns ident ident_at expect unexpected eat check want bump past_trivia past_from kind_at range_at count append add
+loop-names-without-in-by-form κs x p = apart outcome p.0 refl
+
+pub loop-names-none-past-the-chain : (κs : _) (x : _) → loop-names.Post κs (parser begin, (sheet (token kind.Ident), (15, tt))) (Ok (row 0 0 0)) x → ⊥
+unfolding loop_names names name_turn iterate turns ident ident_at expect unexpected eat check want bump past_trivia past_from kind_at range_at count append add
+loop-names-none-past-the-chain κs x p = apart outcome p.0 refl
 
 pub case-patterns-refused-for-readings : (κs : _) (x : _) → case-patterns.Post κs (parser begin, (sheet (token kind.Ident), (0, tt))) (Err (stops.Refused refusals.AllSpent)) x → ⊥
 unfolding case_patterns pattern_turn iterate turns patterns

@@ -14,13 +14,14 @@ use Rattle.cursor.specs.Buffer.{put}
 use Rattle.cursor.specs.Tokens.{past_from, past_trivia, bump, eat_trivia, eol_turn, eat_eol}
 use Rattle.cursor.specs.Checks.{want, check, eat, unexpected, expect, choose}
 use Rattle.cursor.specs.Records.{write, append, add}
-use Rattle.types.specs.Lits.{lit_at, lit, ident_at, ident}
+use Rattle.types.specs.Lits.{literal, lit_from, lit_at, lit, ident_at, ident}
 use Rattle.types.specs.Items.{start, close, so, one_item, after_item, item_turn, items_until_with_last}
 use Rattle.types.specs.Types.{type_last_kind, type_end, union_turn, union, type, returns, named, typed_ident, table_ty_pair, type_item, type_items, type_paren, type_table, type_atom, atoms, params, closure_params}
 use Rattle.types.proofs.types.ty.Reads as ty
 use Rattle.types.proofs.types.returns.Reads as read-returns
 use Rattle.types.proofs.types.typed_ident.Reads as typed-ident
 use Rattle.types.proofs.types.type_items.Reads as type-items
+use Rattle.types.proofs.types.type_items_of.Reads as type-items-of
 use Rattle.types.proofs.types.type_atom.Reads as type-atom
 use Rattle.types.proofs.types.params.Reads as read-params
 use Rattle.types.proofs.types.closure_params.Reads as closure-params
@@ -71,13 +72,26 @@ unfolding typed_ident named type atoms start ident ident_at expect eat check bum
 typed-ident-nothing-after-a-colon κs x p = apart outcome p.0 refl
 
 -- a table type's pairs, up to a parenthesis
-pub type-items-end-at-another-kind : (κs : _) (x : _) → type-items.Post κs (parser begin, (sheet (kind.CloseParen ∷ 0 ∷ 1 ∷ []), (1, (rules.TableTyPairs, (row 0 0 0, tt))))) (Ok (so (row 0 0 0))) x → ⊥
+pub type-items-end-at-another-kind : (κs : _) (x : _) → type-items.Post κs (parser begin, (sheet (kind.CloseParen ∷ 0 ∷ 1 ∷ []), (1, (2, (row 0 0 0, tt))))) (Ok (so (row 0 0 0))) x → ⊥
 unfolding type_items items_until_with_last item_turn one_item type_item table_ty_pair type_end type_last_kind start ident ident_at expect unexpected eat_eol eat_trivia eol_turn iterate turns eat check want past_trivia past_from is_trivia kind_at range_at count
 type-items-end-at-another-kind κs x p = apart outcome p.0 refl
 
-pub type-items-one-item-short : (κs : _) (x : _) → type-items.Post κs (parser begin, (sheet name-shut, (1, (rules.Types, (row 0 0 0, tt))))) (Ok (so (row 0 0 0))) x → ⊥
+pub type-items-end-at-another-kind-by-rule : (κs : _) (x : _) → type-items-of.Post κs (parser begin, (sheet (kind.CloseParen ∷ 0 ∷ 1 ∷ []), (1, (rules.TableTyPairs, (row 0 0 0, tt))))) (Ok (so (row 0 0 0))) x → ⊥
+unfolding type_items items_until_with_last item_turn one_item type_item table_ty_pair type_end type_last_kind start ident ident_at expect unexpected eat_eol eat_trivia eol_turn iterate turns eat check want past_trivia past_from is_trivia kind_at range_at count
+type-items-end-at-another-kind-by-rule κs x p = apart outcome p.0 refl
+
+pub type-items-one-item-short : (κs : _) (x : _) → type-items.Post κs (parser begin, (sheet name-shut, (1, (3, (row 0 0 0, tt))))) (Ok (so (row 0 0 0))) x → ⊥
 unfolding type_items items_until_with_last item_turn one_item after_item type_item type atoms type_atom type_end type_last_kind start ident ident_at expect eat_eol eat_trivia eol_turn iterate turns eat check want bump choose past_trivia past_from is_trivia kind_at range_at count append add
 type-items-one-item-short κs x p = apart (answer (λ i. i.kids.count)) p.0 refl
+
+pub type-items-one-item-short-by-rule : (κs : _) (x : _) → type-items-of.Post κs (parser begin, (sheet name-shut, (1, (rules.Types, (row 0 0 0, tt))))) (Ok (so (row 0 0 0))) x → ⊥
+unfolding type_items items_until_with_last item_turn one_item after_item type_item type atoms type_atom type_end type_last_kind start ident ident_at expect eat_eol eat_trivia eol_turn iterate turns eat check want bump choose past_trivia past_from is_trivia kind_at range_at count append add
+type-items-one-item-short-by-rule κs x p = apart (answer (λ i. i.kids.count)) p.0 refl
+
+-- past the last rule's number a list ends at a parenthesis, and not as the pairs of a table type do
+pub type-items-past-the-rules-as-pairs : (κs : _) (x : _) → type-items.Post κs (parser begin, (sheet (kind.CloseBrace ∷ 0 ∷ 1 ∷ []), (1, (7, (row 0 0 0, tt))))) (Ok (so (row 0 0 0))) x → ⊥
+unfolding type_items items_until_with_last item_turn one_item type_item type atoms type_atom type_end type_last_kind start lit lit_at lit_from literal unexpected eat_eol eat_trivia eol_turn iterate turns eat check want choose past_trivia past_from is_trivia kind_at range_at count
+type-items-past-the-rules-as-pairs κs x p = apart outcome p.0 refl
 
 -- `(` and a name, with one level: none is left for the name
 pub type-atom-depth-not-lowered : (κs : _) (x : _) → type-atom.Post κs (parser begin, (sheet (kind.OpenParen ∷ 0 ∷ 1 ∷ kind.Ident ∷ 1 ∷ 2 ∷ kind.CloseParen ∷ 2 ∷ 3 ∷ []), (1, tt))) (Ok 2) x → ⊥

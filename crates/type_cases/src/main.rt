@@ -10,6 +10,7 @@ ghost use Rattle.type_cases.specs.Forms.{by_form};
 use cursor::records::{FLAGS, NODE_WORDS, ONE, TWO};
 use cursor::{BEGIN, Fault, LIVE_ROOM, Limits, Parser, Refusal, Sheet, State, Stop};
 use listing::{Counts, LENT_NODES};
+use pieces::Unfailing;
 use std::io;
 use std::io::Write;
 use types::patterns::pattern;
@@ -199,5 +200,8 @@ fn all_cases(output: &mut impl Write, input: &[u8]) -> io::Result<()> {
 fn main(rt: HostRuntime) -> io::Result<()> {
     let mut input = [0u8; 65536];
     let n = pieces::fill(&mut rt.reader(), &mut input);
-    all_cases(&mut io::writer(&rt), &input[..n])
+    let mut output = Unfailing {
+        output: io::writer(&rt),
+    };
+    all_cases(&mut output, &input[..n])
 }

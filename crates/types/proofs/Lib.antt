@@ -1,10 +1,13 @@
 pub mod ItemKeeps
 pub mod ItemPaths
 pub mod LitPaths
+pub mod NumberPaths
 pub mod PatternKeeps
 pub mod PatternPaths
+pub mod PatternNumbers
 pub mod Placed
 pub mod TypeKeeps
 pub mod TurnExits
 pub mod TypePaths
+pub mod TypeNumbers
 pub mod Unique

@@ -1,6 +1,6 @@
 -- Each way through the rules on patterns.
-use Rattle.std.specs.Prelude.{Some}
-use mathlib.Core.Path.{◌≡◌, refl}
+use Rattle.std.specs.Prelude.{Option, Some, None}
+use mathlib.Core.Path.{◌≡◌, refl, sym}
 use mathlib.Core.Bool.{Bool, false}
 use Prim.Native.Nat.{ℕ, zero, suc, ◌-◌}
 use native.Mathlib.Numerals.{sub-one}
@@ -32,6 +32,13 @@ end-pairs p = rw p
 pub end-patterns : {r : PatternRule} → r ≡ rules.Patterns → kind.CloseBracket ≡ pattern_end (pattern_rule r)
 unfolding pattern_end
 end-patterns p = rw p
+
+-- a range that is told apart, or its empty stand-in
+pub span-at : {g : Option Span} {r : Span} → g ≡ Some r → r ≡ span_of g
+span-at p = sym (rw p)
+
+pub span-nowhere : {g : Option Span} → g ≡ None → record { start = 0; end = 0 } ≡ span_of g
+span-nowhere p = sym (rw p)
 
 module _ (e : Sheet) (k : ℕ) (kids : Kids) (s : State) (w : World) where
   pub ended-spent : {x : Stop} → bump e s w ≡ failed x → pattern_ended e k kids s w ≡ failed x

@@ -19,6 +19,7 @@ use Rattle.types.proofs.types.ty.Reads as ty
 use Rattle.types.proofs.types.returns.Reads as returns
 use Rattle.types.proofs.types.typed_ident.Reads as typed-ident
 use Rattle.types.proofs.types.type_items.Reads as type-items
+use Rattle.types.proofs.types.type_items_of.Reads as type-items-of
 use Rattle.types.proofs.types.type_atom.Reads as type-atom
 use Rattle.types.proofs.types.params.Reads as params
 use Rattle.types.proofs.types.closure_params.Reads as closure-params
@@ -62,6 +63,9 @@ one-typed-ident κs args r s x y p q = one x.0.now y.0.now r s p.0 q.0
 
 pub one-type-items : (κs : _) (args : _) (r s : _) (x y : _) → type-items.Post κs args r x → type-items.Post κs args s y → One x.0.now y.0.now r s
 one-type-items κs args r s x y p q = one x.0.now y.0.now r s p.0 q.0
+
+pub one-type-items-of : (κs : _) (args : _) (r s : _) (x y : _) → type-items-of.Post κs args r x → type-items-of.Post κs args s y → One x.0.now y.0.now r s
+one-type-items-of κs args r s x y p q = one x.0.now y.0.now r s p.0 q.0
 
 pub one-type-atom : (κs : _) (args : _) (r s : _) (x y : _) → type-atom.Post κs args r x → type-atom.Post κs args s y → One x.0.now y.0.now r s
 one-type-atom κs args r s x y p q = one x.0.now y.0.now r s p.0 q.0

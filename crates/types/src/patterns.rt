@@ -85,7 +85,7 @@ fn pattern_item(
     }
 }
 
-// Rust's parse_items_until_with_last, for the item rules of patterns. `type_items`, parts' `import_items` and exprs' `items` are its
+// Rust's parse_items_until_with_last, for the item rules of patterns. `type_items_of`, parts' `import_items` and exprs' `items` are its
 // twins. One loop for the four was tried and is no plainer: by a trait the check makes no proof, since the item's method leads back into
 // the cycle of calls, and a closure in a cycle has its clauses written out, so that two of them at each list are longer than the loop.
 #[cycle(patterns)]

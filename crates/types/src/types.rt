@@ -210,7 +210,7 @@ fn type_last(
 
 // Rust's parse_items_until_with_last, for the item rules of types. patterns.rt says why it is not one function with its twins.
 #[cycle(types)]
-pub fn type_items(
+pub fn type_items_of(
     p: &mut Parser<'_>,
     sheet: &Sheet<'_>,
     depth: u32,
@@ -246,6 +246,25 @@ pub fn type_items(
     }
 }
 
+// The same by the item rule's number, whatever it is: past the last one a list is one of types.
+pub fn type_items(
+    p: &mut Parser<'_>,
+    sheet: &Sheet<'_>,
+    depth: u32,
+    rule: u32,
+    kids: Kids,
+) -> Result<Items, Stop>
+    ensures ended { ended p.new result ≡ run (type_items (sheet_of sheet.now) (atoms (sheet_of sheet.now) depth) rule kids) p.old }
+    ensures lent { SameErrors p.old p.new }
+{
+    match rule {
+        0 => type_items_of(p, sheet, depth, TypeRule::TypedIdents, kids),
+        1 => type_items_of(p, sheet, depth, TypeRule::AtomTypedIdents, kids),
+        2 => type_items_of(p, sheet, depth, TypeRule::TableTyPairs, kids),
+        _ => type_items_of(p, sheet, depth, TypeRule::Types, kids),
+    }
+}
+
 // A type in parentheses.
 #[cycle(types)]
 fn type_paren(p: &mut Parser<'_>, sheet: &Sheet<'_>, depth: u32, from: u32) -> Result<u32, Stop>
@@ -266,7 +285,7 @@ fn type_table(p: &mut Parser<'_>, sheet: &Sheet<'_>, depth: u32, from: u32) -> R
     ensures lent { SameErrors p.old p.new }
 {
     p.bump(sheet)?;
-    let items = type_items(p, sheet, depth, TypeRule::TableTyPairs, NO_KIDS)?;
+    let items = type_items_of(p, sheet, depth, TypeRule::TableTyPairs, NO_KIDS)?;
     let flags = flagged(items.kids.count, 0, items.ended.is_some(), false);
     close(p, nodes::TY_TABLE, from, 0, 0, flags, items.kids.first)
 }
@@ -278,7 +297,7 @@ fn type_function(p: &mut Parser<'_>, sheet: &Sheet<'_>, depth: u32, from: u32) -
     ensures lent { SameErrors p.old p.new }
 {
     p.bump(sheet)?;
-    let items = type_items(p, sheet, depth, TypeRule::Types, NO_KIDS)?;
+    let items = type_items_of(p, sheet, depth, TypeRule::Types, NO_KIDS)?;
     let link = returns(p, sheet, depth)?;
     let kids = add_some(p, items.kids, link);
     let flags = flagged(items.kids.count, 0, items.ended.is_some(), 0 < link);
@@ -317,7 +336,7 @@ pub fn params(p: &mut Parser<'_>, sheet: &Sheet<'_>, depth: u32, kids: Kids) -> 
     ensures lent { SameErrors p.old p.new }
 {
     p.expect(sheet, kinds::OPEN_PAREN)?;
-    type_items(p, sheet, depth, TypeRule::TypedIdents, kids)
+    type_items_of(p, sheet, depth, TypeRule::TypedIdents, kids)
 }
 
 // Rust's parse_closure_params.
@@ -331,5 +350,5 @@ pub fn closure_params(
     ensures lent { SameErrors p.old p.new }
 {
     p.expect(sheet, kinds::V_BAR)?;
-    type_items(p, sheet, depth, TypeRule::AtomTypedIdents, kids)
+    type_items_of(p, sheet, depth, TypeRule::AtomTypedIdents, kids)
 }

@@ -200,7 +200,7 @@ pub atoms::atom-returns-in_err-link-2-clause-ended : goal.atoms::atom-returns-in
 atoms::atom-returns-in_err-link-2-clause-ended t c = exits c.form.new.p _ _ c.from_residual-in_err-link-2.ensures (sym (ao.atom-failed _ _ _ c.start_range-from.ensures (sym (rw c.in-Some.ensures at c.in_ok-place.ensures.ended)) (sym c.in_err-link-2.ensures.ended)))
 
 pub atoms::atom-returns-clause-ended : goal.atoms::atom-returns-clause-ended
-atoms::atom-returns-clause-ended t c = sym (ao.atom-on _ _ _ c.start_range-from.ensures (sym (rw c.in-Some.ensures at c.in_ok-place.ensures.ended)) (sym c.in_ok-link-2.ensures.ended) c.atom_expr.ensures)
+atoms::atom-returns-clause-ended t c = sym (ao.atom-on _ _ _ c.start_range-from.ensures (sym (rw c.in-Some.ensures at c.in_ok-place.ensures.ended)) (sym c.in_ok-link-2.ensures.ended) c.atom_expr_of.ensures)
 
 pub atoms::form-returns-in-OpenParen-clause-ended : goal.atoms::form-returns-in-OpenParen-clause-ended
 atoms::form-returns-in-OpenParen-clause-ended t c = c.group.ensures.ended ∙ sym (by-group _ _ _ _ _ c.in-OpenParen.is)
@@ -224,7 +224,7 @@ pub atoms::form-returns-in-Loop-clause-ended : goal.atoms::form-returns-in-Loop-
 atoms::form-returns-in-Loop-clause-ended t c = c.loops.ensures.ended ∙ sym (by-loops _ _ _ _ _ c.in-Loop.is)
 
 pub atoms::form-returns-in-Break-clause-ended : goal.atoms::form-returns-in-Break-clause-ended
-atoms::form-returns-in-Break-clause-ended t c = c.leaf.ensures.ended ∙ sym (by-leaf _ _ _ _ _ c.in-Break.is)
+atoms::form-returns-in-Break-clause-ended t c = c.leaf_of.ensures.ended ∙ sym (by-leaf _ _ _ _ _ c.in-Break.is)
 
 pub atoms::group-returns-in_err-bump-clause-ended : goal.atoms::group-returns-in_err-bump-clause-ended
 atoms::group-returns-in_err-bump-clause-ended t c = exits c.bump.new.self _ _ c.from_residual.ensures (sym (ao.group-spent _ _ _ _ _ (sym c.in_err-bump.ensures.ended)))
@@ -285,7 +285,7 @@ atoms::loops-returns-in-Loop-clause-ended t c = c.loop_record.ensures.ended ∙ 
 
 pub atoms::loops-returns-in_err-names-in_default : goal.atoms::loops-returns-in_err-names-in_default
 atoms::loops-returns-in_err-names-in_default t c = record {
-  ended = exits c.loop_names.new.p _ _ c.from_residual-in_err-names-in_default.ensures (sym (ao.loops-bare _ _ _ _ _ (sym c.in_ok-bump.ensures.ended) (λ q. c.in_default.not-Loop (one-place _ forms.Loop q)) (sym c.in_err-names-in_default.ensures.ended)));
+  ended = exits c.loop_names_of.new.p _ _ c.from_residual-in_err-names-in_default.ensures (sym (ao.loops-bare _ _ _ _ _ (sym c.in_ok-bump.ensures.ended) (λ q. c.in_default.not-Loop (one-place _ forms.Loop q)) (sym c.in_err-names-in_default.ensures.ended)));
   lent = search rules;
 }
 
@@ -297,7 +297,7 @@ atoms::loops-returns-in_err-kids-in_default t c = record {
 
 pub atoms::loops-returns-in_ok-kids-in_default : goal.atoms::loops-returns-in_ok-kids-in_default
 atoms::loops-returns-in_ok-kids-in_default t c = record {
-  ended = c.round_record.ensures.ended ∙ sym (ao.loops-on _ _ _ _ _ (sym c.in_ok-bump.ensures.ended) (λ q. c.in_default.not-Loop (one-place _ forms.Loop q)) (sym c.in_ok-names-in_default.ensures.ended) (sym c.in_ok-kids-in_default.ensures.ended));
+  ended = c.round_record_of.ensures.ended ∙ sym (ao.loops-on _ _ _ _ _ (sym c.in_ok-bump.ensures.ended) (λ q. c.in_default.not-Loop (one-place _ forms.Loop q)) (sym c.in_ok-names-in_default.ensures.ended) (sym c.in_ok-kids-in_default.ensures.ended));
   lent = search rules;
 }
 
@@ -530,7 +530,7 @@ pub primary::access-returns-in_err-link-clause-ended : goal.primary::access-retu
 primary::access-returns-in_err-link-clause-ended t c = turn-exits (λ a. a) (λ a. a) c.member_property.new.p _ _ c.from_residual-in_err-link.ensures (sym (pm.access-lost _ _ _ _ _ (sym c.in_ok-safe.ensures.ended) (sym (rw c.in-Some.ensures at c.in_ok-place.ensures.ended)) (opens-small _) (sym c.in_ok-meta.ensures.ended) (sym c.in_err-link.ensures.ended)))
 
 pub primary::access-returns-clause-ended : goal.primary::access-returns-clause-ended
-primary::access-returns-clause-ended t c = c.member_record.ensures.ended ∙ sym (pm.access-on _ _ _ _ _ (sym c.in_ok-safe.ensures.ended) (sym (rw c.in-Some.ensures at c.in_ok-place.ensures.ended)) (opens-small _) (sym c.in_ok-meta.ensures.ended) (sym c.in_ok-link.ensures.ended))
+primary::access-returns-clause-ended t c = c.member_record_of.ensures.ended ∙ sym (pm.access-on _ _ _ _ _ (sym c.in_ok-safe.ensures.ended) (sym (rw c.in-Some.ensures at c.in_ok-place.ensures.ended)) (opens-small _) (sym c.in_ok-meta.ensures.ended) (sym c.in_ok-link.ensures.ended))
 
 pub primary::call-returns-in_err-items-clause-ended : goal.primary::call-returns-in_err-items-clause-ended
 primary::call-returns-in_err-items-clause-ended t c = turn-exits (λ a. a) (λ a. a) c.items.new.p _ _ c.from_residual.ensures (sym (pm.call-failed _ _ _ _ _ _ c.link-link.ensures (sym c.in_err-items.ensures.ended)))
@@ -548,7 +548,7 @@ pub primary::call-returns-clause-ended : goal.primary::call-returns-clause-ended
 primary::call-returns-clause-ended t c = c.call_record-2.ensures.ended ∙ sym (pm.call-on _ _ _ _ _ _ c.link-link.ensures (sym c.in_ok-items.ensures.ended) (sym (rw c.if-not-branch.false at c.in_ok-braced.ensures.ended)) (sym c.in_ok-closure.ensures.ended))
 
 pub primary::member_property-returns-then-meta-clause-ended : goal.primary::member_property-returns-then-meta-clause-ended
-primary::member_property-returns-then-meta-clause-ended t c = c.meta_end.ensures.ended ∙ sym (pm.property-meta _ _ _ _ c.if-meta.true)
+primary::member_property-returns-then-meta-clause-ended t c = c.meta_end_of.ensures.ended ∙ sym (pm.property-meta _ _ _ _ c.if-meta.true)
 
 pub primary::member_property-returns-in_err-link-in-Bracket-clause-ended : goal.primary::member_property-returns-in_err-link-in-Bracket-clause-ended
 primary::member_property-returns-in_err-link-in-Bracket-clause-ended t c = let p = ap opens c.in-Bracket.is in exits c.expr.new.p _ _ c.from_residual.ensures (sym (pm.property-failed _ _ _ _ c.if-meta.false (omega arith) (sym c.in_err-link-in-Bracket.ensures.ended)))
@@ -724,16 +724,16 @@ pub tables::items-returns-in_err-eat_eol-clause-ended : goal.tables::items-retur
 tables::items-returns-in_err-eat_eol-clause-ended t c = exits c.eat_eol.new.self _ _ c.from_residual.ensures (sym (tb.items-spent _ _ _ _ _ (sym c.in_err-eat_eol.ensures.ended)))
 
 pub tables::items-returns-in_err-eat-clause-ended : goal.tables::items-returns-in_err-eat-clause-ended
-tables::items-returns-in_err-eat-clause-ended t c = exits c.eat.new.self _ _ c.from_residual-in_err-eat.ensures (sym (tb.items-begin _ _ _ _ _ c.items_end-end.ensures (sym c.in_ok-eat_eol.ensures.ended) ∙ c.loop-p.invariant.rest ∙ turning.loop-failed _ _ (until.until-full _ _ _ _ _ _ (sym c.in_err-eat.ensures.ended))))
+tables::items-returns-in_err-eat-clause-ended t c = exits c.eat.new.self _ _ c.from_residual-in_err-eat.ensures (sym (tb.items-begin _ _ _ _ _ c.items_end_of-end.ensures (sym c.in_ok-eat_eol.ensures.ended) ∙ c.loop-p.invariant.rest ∙ turning.loop-failed _ _ (until.until-full _ _ _ _ _ _ (sym c.in_err-eat.ensures.ended))))
 
 pub tables::items-returns-then-branch-clause-ended : goal.tables::items-returns-then-branch-clause-ended
-tables::items-returns-then-branch-clause-ended t c = sym (tb.items-begin _ _ _ _ _ c.items_end-end.ensures (sym c.in_ok-eat_eol.ensures.ended) ∙ c.loop-p.invariant.rest ∙ turning.loop-stop _ _ (until.until-ended _ _ _ _ _ _ (sym (rw c.if-branch.true at c.in_ok-eat.ensures.ended))))
+tables::items-returns-then-branch-clause-ended t c = sym (tb.items-begin _ _ _ _ _ c.items_end_of-end.ensures (sym c.in_ok-eat_eol.ensures.ended) ∙ c.loop-p.invariant.rest ∙ turning.loop-stop _ _ (until.until-ended _ _ _ _ _ _ (sym (rw c.if-branch.true at c.in_ok-eat.ensures.ended))))
 
 pub tables::items-returns-in_err-link-clause-ended : goal.tables::items-returns-in_err-link-clause-ended
-tables::items-returns-in_err-link-clause-ended t c = exits c.item.new.p _ _ c.from_residual-in_err-link.ensures (sym (tb.items-begin _ _ _ _ _ c.items_end-end.ensures (sym c.in_ok-eat_eol.ensures.ended) ∙ c.loop-p.invariant.rest ∙ turning.loop-failed _ _ (until.until-failed _ _ _ _ _ _ (sym (rw c.if-branch.false at c.in_ok-eat.ensures.ended)) (sym c.in_err-link.ensures.ended))))
+tables::items-returns-in_err-link-clause-ended t c = exits c.item.new.p _ _ c.from_residual-in_err-link.ensures (sym (tb.items-begin _ _ _ _ _ c.items_end_of-end.ensures (sym c.in_ok-eat_eol.ensures.ended) ∙ c.loop-p.invariant.rest ∙ turning.loop-failed _ _ (until.until-failed _ _ _ _ _ _ (sym (rw c.if-branch.false at c.in_ok-eat.ensures.ended)) (sym c.in_err-link.ensures.ended))))
 
 pub tables::items-returns-in_err-longer-clause-ended : goal.tables::items-returns-in_err-longer-clause-ended
-tables::items-returns-in_err-longer-clause-ended t c = exits c.after_item.new.p _ _ c.from_residual-in_err-longer.ensures (sym (tb.items-begin _ _ _ _ _ c.items_end-end.ensures (sym c.in_ok-eat_eol.ensures.ended) ∙ c.loop-p.invariant.rest ∙ turning.loop-failed _ _ (until.until-item _ _ _ (so c.loop-p.row) _ _ (sym (rw c.if-branch.false at c.in_ok-eat.ensures.ended)) (sym c.in_ok-link.ensures.ended) ∙ (sym c.in_err-longer.ensures.ended))))
+tables::items-returns-in_err-longer-clause-ended t c = exits c.after_item.new.p _ _ c.from_residual-in_err-longer.ensures (sym (tb.items-begin _ _ _ _ _ c.items_end_of-end.ensures (sym c.in_ok-eat_eol.ensures.ended) ∙ c.loop-p.invariant.rest ∙ turning.loop-failed _ _ (until.until-item _ _ _ (so c.loop-p.row) _ _ (sym (rw c.if-branch.false at c.in_ok-eat.ensures.ended)) (sym c.in_ok-link.ensures.ended) ∙ (sym c.in_err-longer.ensures.ended))))
 
 pub tables::items-loop-p-smaller : goal.tables::items-loop-p-smaller
 tables::items-loop-p-smaller t c = turning.loop-less _ _ (takes.until-turn-takes _ _ _ _) (until.until-item _ _ _ (so c.loop-p.row) _ _ (sym (rw c.if-branch.false at c.in_ok-eat.ensures.ended)) (sym c.in_ok-link.ensures.ended) ∙ sym (rw c.in-Continue.is at c.in_ok-longer.ensures.ended))
@@ -745,7 +745,7 @@ tables::items-loop-p-preserved t c = record {
 }
 
 pub tables::items-returns-in-Break-clause-ended : goal.tables::items-returns-in-Break-clause-ended
-tables::items-returns-in-Break-clause-ended t c = sym (tb.items-begin _ _ _ _ _ c.items_end-end.ensures (sym c.in_ok-eat_eol.ensures.ended) ∙ c.loop-p.invariant.rest ∙ turning.loop-stop _ _ (until.until-item _ _ _ (so c.loop-p.row) _ _ (sym (rw c.if-branch.false at c.in_ok-eat.ensures.ended)) (sym c.in_ok-link.ensures.ended) ∙ sym (rw c.in-Break.is at c.in_ok-longer.ensures.ended)))
+tables::items-returns-in-Break-clause-ended t c = sym (tb.items-begin _ _ _ _ _ c.items_end_of-end.ensures (sym c.in_ok-eat_eol.ensures.ended) ∙ c.loop-p.invariant.rest ∙ turning.loop-stop _ _ (until.until-item _ _ _ (so c.loop-p.row) _ _ (sym (rw c.if-branch.false at c.in_ok-eat.ensures.ended)) (sym c.in_ok-link.ensures.ended) ∙ sym (rw c.in-Break.is at c.in_ok-longer.ensures.ended)))
 
 pub tables::key-returns-in_err-eat-clause-ended : goal.tables::key-returns-in_err-eat-clause-ended
 tables::key-returns-in_err-eat-clause-ended t c = exits c.eat.new.self _ _ c.from_residual.ensures (sym (tb.key-full _ _ _ c.start_range-from.ensures (sym c.in_err-eat.ensures.ended)))

@@ -6,11 +6,11 @@ use Rattle.cursor.specs.Answers.{sheet_of, run, SameBuffers}
 use Rattle.cursor.proofs.Parser.eat_eol.Given as goal
 
 -- going on from here gives what going on from the start gives
-abbrev pub invariant-loop-self : goal.invariant-loop-self
-invariant-loop-self l = record {
+abbrev pub invariant-loop-mark : goal.invariant-loop-mark
+invariant-loop-mark l = record {
   rest : run (iterate (sheet_of l.sheet) (eol_turn (sheet_of l.sheet)) tt) l.initial.self ≡ run (iterate (sheet_of l.sheet) (eol_turn (sheet_of l.sheet)) tt) l.self;
   lent : SameBuffers l.initial.self l.self;
 }
 
-abbrev pub decreases-loop-self : goal.decreases-loop-self
-decreases-loop-self l = count l.sheet.tokens.now - l.self.state.at
+abbrev pub decreases-loop-mark : goal.decreases-loop-mark
+decreases-loop-mark l = count l.sheet.tokens.now - l.self.state.at

@@ -1,13 +1,7 @@
--- as `while` or as `for`
-use Rattle.std.proofs.Common.{rules, sym, ap, ◌∙◌}
-use Rattle.parts.proofs.RecordPaths as paths
-use Rattle.parts.specs.declared.forms.Form.TheVariants as forms
-use Rattle.parts.specs.Forms.{place}
-use Rattle.parts.proofs.FormPlaces.{one-place}
+-- The record of a loop by a place: as its form's, and past the chain as that of a `for`.
+use Rattle.std.proofs.Common.{sym, ◌∙◌}
+use Rattle.parts.proofs.NumberPaths.{round-past}
 use Rattle.parts.proofs.records.round_record.Goals as goal
 
-pub returns-in-While-clause-ended : goal.returns-in-While-clause-ended
-returns-in-While-clause-ended c = c.close.ensures.ended ∙ sym (paths.round-while _ _ _ _ _ _ (ap place c.in-While.is))
-
-pub returns-in_default : goal.returns-in_default
-returns-in_default c = record { ended = c.close-in_default.ensures.ended ∙ sym (paths.round-for _ _ _ _ _ _ (λ q. c.in_default.not-While (one-place _ forms.While q)) c.flagged-flags.ensures); lent = search rules }
+pub returns-in-None-clause-ended : goal.returns-in-None-clause-ended
+returns-in-None-clause-ended c = c.round_record_of-in-None.ensures.ended ∙ sym (round-past _ c.in-None.ensures _ _ _ _ _)

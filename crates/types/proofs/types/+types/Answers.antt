@@ -91,7 +91,7 @@ pub type_function-returns-in_err-bump-clause-ended : goal.type_function-returns-
 type_function-returns-in_err-bump-clause-ended t c = exits c.bump.new.self _ _ c.from_residual.ensures (sym (paths.function-spent _ _ _ _ _ (sym c.in_err-bump.ensures.ended)))
 
 pub type_function-returns-in_err-items-clause-ended : goal.type_function-returns-in_err-items-clause-ended
-type_function-returns-in_err-items-clause-ended t c = exits c.type_items.new.p _ _ c.from_residual-in_err-items.ensures (sym (paths.function-failed _ _ _ _ _ (sym c.in_ok-bump.ensures.ended) (sym c.in_err-items.ensures.ended)))
+type_function-returns-in_err-items-clause-ended t c = exits c.type_items_of.new.p _ _ c.from_residual-in_err-items.ensures (sym (paths.function-failed _ _ _ _ _ (sym c.in_ok-bump.ensures.ended) (sym c.in_err-items.ensures.ended)))
 
 pub type_function-returns-in_err-link-clause-ended : goal.type_function-returns-in_err-link-clause-ended
 type_function-returns-in_err-link-clause-ended t c = exits c.returns.new.p _ _ c.from_residual-in_err-link.ensures (sym (paths.function-lost _ _ _ _ _ (sym c.in_ok-bump.ensures.ended) (sym c.in_ok-items.ensures.ended) (sym c.in_err-link.ensures.ended)))
@@ -111,38 +111,38 @@ type_item-returns-in-TableTyPairs-clause-ended t c = c.table_ty_pair.ensures.end
 pub type_item-returns-in-Types-clause-ended : goal.type_item-returns-in-Types-clause-ended
 type_item-returns-in-Types-clause-ended t c = c.ty.ensures.ended ∙ sym (paths.item-type _ _ _ _ c.in-Types.is)
 
-pub type_items-returns-in_err-eat_eol-clause-ended : goal.type_items-returns-in_err-eat_eol-clause-ended
-type_items-returns-in_err-eat_eol-clause-ended t c = exits c.eat_eol.new.self _ _ c.from_residual.ensures (sym (paths.items-spent _ _ _ _ _ _ (sym c.in_err-eat_eol.ensures.ended)))
+pub type_items_of-returns-in_err-eat_eol-clause-ended : goal.type_items_of-returns-in_err-eat_eol-clause-ended
+type_items_of-returns-in_err-eat_eol-clause-ended t c = exits c.eat_eol.new.self _ _ c.from_residual.ensures (sym (paths.items-spent _ _ _ _ _ _ (sym c.in_err-eat_eol.ensures.ended)))
 
-pub type_items-returns-in_err-eat-clause-ended : goal.type_items-returns-in_err-eat-clause-ended
-type_items-returns-in_err-eat-clause-ended t c = exits c.eat.new.self _ _ c.from_residual-in_err-eat.ensures (sym (paths.items-begin _ _ _ _ _ _ c.end-end.ensures (sym c.in_ok-eat_eol.ensures.ended) ∙ c.loop-p.invariant.rest ∙ loops.loop-failed _ _ (items.turn-failed _ _ _ _ _ _ _ _ (sym c.in_err-eat.ensures.ended))))
+pub type_items_of-returns-in_err-eat-clause-ended : goal.type_items_of-returns-in_err-eat-clause-ended
+type_items_of-returns-in_err-eat-clause-ended t c = exits c.eat.new.self _ _ c.from_residual-in_err-eat.ensures (sym (paths.items-begin _ _ _ _ _ _ c.end-end.ensures (sym c.in_ok-eat_eol.ensures.ended) ∙ c.loop-p.invariant.rest ∙ loops.loop-failed _ _ (items.turn-failed _ _ _ _ _ _ _ _ (sym c.in_err-eat.ensures.ended))))
 
-pub type_items-returns-then-branch-clause-ended : goal.type_items-returns-then-branch-clause-ended
-type_items-returns-then-branch-clause-ended t c = sym (paths.items-begin _ _ _ _ _ _ c.end-end.ensures (sym c.in_ok-eat_eol.ensures.ended) ∙ c.loop-p.invariant.rest ∙ loops.loop-stop _ _ (items.turn-ended _ _ _ _ _ _ _ _ (sym (rw c.if-branch.true at c.in_ok-eat.ensures.ended))))
+pub type_items_of-returns-then-branch-clause-ended : goal.type_items_of-returns-then-branch-clause-ended
+type_items_of-returns-then-branch-clause-ended t c = sym (paths.items-begin _ _ _ _ _ _ c.end-end.ensures (sym c.in_ok-eat_eol.ensures.ended) ∙ c.loop-p.invariant.rest ∙ loops.loop-stop _ _ (items.turn-ended _ _ _ _ _ _ _ _ (sym (rw c.if-branch.true at c.in_ok-eat.ensures.ended))))
 
-pub type_items-returns-in_err-check-clause-ended : goal.type_items-returns-in_err-check-clause-ended
-type_items-returns-in_err-check-clause-ended t c = exits c.check.new.self _ _ c.from_residual-in_err-check.ensures (sym (paths.items-begin _ _ _ _ _ _ c.end-end.ensures (sym c.in_ok-eat_eol.ensures.ended) ∙ c.loop-p.invariant.rest ∙ loops.loop-failed _ _ (items.turn-full _ _ _ _ _ _ _ _ (sym (rw c.if-branch.false at c.in_ok-eat.ensures.ended)) (paths.check-as _ _ _ c.last_kind.ensures (sym c.in_err-check.ensures.ended)))))
+pub type_items_of-returns-in_err-check-clause-ended : goal.type_items_of-returns-in_err-check-clause-ended
+type_items_of-returns-in_err-check-clause-ended t c = exits c.check.new.self _ _ c.from_residual-in_err-check.ensures (sym (paths.items-begin _ _ _ _ _ _ c.end-end.ensures (sym c.in_ok-eat_eol.ensures.ended) ∙ c.loop-p.invariant.rest ∙ loops.loop-failed _ _ (items.turn-full _ _ _ _ _ _ _ _ (sym (rw c.if-branch.false at c.in_ok-eat.ensures.ended)) (paths.check-as _ _ _ c.last_kind.ensures (sym c.in_err-check.ensures.ended)))))
 
-pub type_items-returns-then-branch-2-clause-ended : goal.type_items-returns-then-branch-2-clause-ended
-type_items-returns-then-branch-2-clause-ended t c = sym (paths.items-begin _ _ _ _ _ _ c.end-end.ensures (sym c.in_ok-eat_eol.ensures.ended) ∙ c.loop-p.invariant.rest ∙ items.turned-last _ _ _ _ _ _ _ _ _ (sym (rw c.if-branch.false at c.in_ok-eat.ensures.ended)) (paths.check-as _ _ _ c.last_kind.ensures (sym (rw c.if-branch-2.true at c.in_ok-check.ensures.ended))) (c.type_last.ensures.ended ∙ paths.last-is _ _ _ _ _ _ c.end-end.ensures))
+pub type_items_of-returns-then-branch-2-clause-ended : goal.type_items_of-returns-then-branch-2-clause-ended
+type_items_of-returns-then-branch-2-clause-ended t c = sym (paths.items-begin _ _ _ _ _ _ c.end-end.ensures (sym c.in_ok-eat_eol.ensures.ended) ∙ c.loop-p.invariant.rest ∙ items.turned-last _ _ _ _ _ _ _ _ _ (sym (rw c.if-branch.false at c.in_ok-eat.ensures.ended)) (paths.check-as _ _ _ c.last_kind.ensures (sym (rw c.if-branch-2.true at c.in_ok-check.ensures.ended))) (c.type_last.ensures.ended ∙ paths.last-is _ _ _ _ _ _ c.end-end.ensures))
 
-pub type_items-returns-in_err-link-clause-ended : goal.type_items-returns-in_err-link-clause-ended
-type_items-returns-in_err-link-clause-ended t c = exits c.type_item.new.p _ _ c.from_residual-in_err-link.ensures (sym (paths.items-begin _ _ _ _ _ _ c.end-end.ensures (sym c.in_ok-eat_eol.ensures.ended) ∙ c.loop-p.invariant.rest ∙ loops.loop-failed _ _ (items.turn-item-failed _ _ _ _ _ _ _ _ (sym (rw c.if-branch.false at c.in_ok-eat.ensures.ended)) (paths.check-as _ _ _ c.last_kind.ensures (sym (rw c.if-branch-2.false at c.in_ok-check.ensures.ended))) (sym c.in_err-link.ensures.ended))))
+pub type_items_of-returns-in_err-link-clause-ended : goal.type_items_of-returns-in_err-link-clause-ended
+type_items_of-returns-in_err-link-clause-ended t c = exits c.type_item.new.p _ _ c.from_residual-in_err-link.ensures (sym (paths.items-begin _ _ _ _ _ _ c.end-end.ensures (sym c.in_ok-eat_eol.ensures.ended) ∙ c.loop-p.invariant.rest ∙ loops.loop-failed _ _ (items.turn-item-failed _ _ _ _ _ _ _ _ (sym (rw c.if-branch.false at c.in_ok-eat.ensures.ended)) (paths.check-as _ _ _ c.last_kind.ensures (sym (rw c.if-branch-2.false at c.in_ok-check.ensures.ended))) (sym c.in_err-link.ensures.ended))))
 
-pub type_items-returns-in_err-longer-clause-ended : goal.type_items-returns-in_err-longer-clause-ended
-type_items-returns-in_err-longer-clause-ended t c = exits c.after_item.new.p _ _ c.from_residual-in_err-longer.ensures (sym (paths.items-begin _ _ _ _ _ _ c.end-end.ensures (sym c.in_ok-eat_eol.ensures.ended) ∙ c.loop-p.invariant.rest ∙ loops.loop-failed _ _ (items.turn-item _ _ _ _ _ (so c.loop-p.row) _ _ (sym (rw c.if-branch.false at c.in_ok-eat.ensures.ended)) (paths.check-as _ _ _ c.last_kind.ensures (sym (rw c.if-branch-2.false at c.in_ok-check.ensures.ended))) (sym c.in_ok-link.ensures.ended) ∙ sym c.in_err-longer.ensures.ended)))
+pub type_items_of-returns-in_err-longer-clause-ended : goal.type_items_of-returns-in_err-longer-clause-ended
+type_items_of-returns-in_err-longer-clause-ended t c = exits c.after_item.new.p _ _ c.from_residual-in_err-longer.ensures (sym (paths.items-begin _ _ _ _ _ _ c.end-end.ensures (sym c.in_ok-eat_eol.ensures.ended) ∙ c.loop-p.invariant.rest ∙ loops.loop-failed _ _ (items.turn-item _ _ _ _ _ (so c.loop-p.row) _ _ (sym (rw c.if-branch.false at c.in_ok-eat.ensures.ended)) (paths.check-as _ _ _ c.last_kind.ensures (sym (rw c.if-branch-2.false at c.in_ok-check.ensures.ended))) (sym c.in_ok-link.ensures.ended) ∙ sym c.in_err-longer.ensures.ended)))
 
-pub type_items-loop-p-smaller : goal.type_items-loop-p-smaller
-type_items-loop-p-smaller t c = loops.loop-less _ _ (keeps.type-items-take _ _ _ _) (items.turn-item _ _ _ _ _ (so c.loop-p.row) _ _ (sym (rw c.if-branch.false at c.in_ok-eat.ensures.ended)) (paths.check-as _ _ _ c.last_kind.ensures (sym (rw c.if-branch-2.false at c.in_ok-check.ensures.ended))) (sym c.in_ok-link.ensures.ended) ∙ sym (rw c.in-Continue.is at c.in_ok-longer.ensures.ended))
+pub type_items_of-loop-p-smaller : goal.type_items_of-loop-p-smaller
+type_items_of-loop-p-smaller t c = loops.loop-less _ _ (keeps.type-items-take _ _ _ _) (items.turn-item _ _ _ _ _ (so c.loop-p.row) _ _ (sym (rw c.if-branch.false at c.in_ok-eat.ensures.ended)) (paths.check-as _ _ _ c.last_kind.ensures (sym (rw c.if-branch-2.false at c.in_ok-check.ensures.ended))) (sym c.in_ok-link.ensures.ended) ∙ sym (rw c.in-Continue.is at c.in_ok-longer.ensures.ended))
 
-pub type_items-loop-p-preserved : goal.type_items-loop-p-preserved
-type_items-loop-p-preserved t c = record {
+pub type_items_of-loop-p-preserved : goal.type_items_of-loop-p-preserved
+type_items_of-loop-p-preserved t c = record {
   rest = c.loop-p.invariant.rest ∙ loops.loop-more _ _ (keeps.type-items-take _ _ _ _) (items.turn-item _ _ _ _ _ (so c.loop-p.row) _ _ (sym (rw c.if-branch.false at c.in_ok-eat.ensures.ended)) (paths.check-as _ _ _ c.last_kind.ensures (sym (rw c.if-branch-2.false at c.in_ok-check.ensures.ended))) (sym c.in_ok-link.ensures.ended) ∙ sym (rw c.in-Continue.is at c.in_ok-longer.ensures.ended));
   lent = search rules;
 }
 
-pub type_items-returns-in-Break-clause-ended : goal.type_items-returns-in-Break-clause-ended
-type_items-returns-in-Break-clause-ended t c = sym (paths.items-begin _ _ _ _ _ _ c.end-end.ensures (sym c.in_ok-eat_eol.ensures.ended) ∙ c.loop-p.invariant.rest ∙ loops.loop-stop _ _ (items.turn-item _ _ _ _ _ (so c.loop-p.row) _ _ (sym (rw c.if-branch.false at c.in_ok-eat.ensures.ended)) (paths.check-as _ _ _ c.last_kind.ensures (sym (rw c.if-branch-2.false at c.in_ok-check.ensures.ended))) (sym c.in_ok-link.ensures.ended) ∙ sym (rw c.in-Break.is at c.in_ok-longer.ensures.ended)))
+pub type_items_of-returns-in-Break-clause-ended : goal.type_items_of-returns-in-Break-clause-ended
+type_items_of-returns-in-Break-clause-ended t c = sym (paths.items-begin _ _ _ _ _ _ c.end-end.ensures (sym c.in_ok-eat_eol.ensures.ended) ∙ c.loop-p.invariant.rest ∙ loops.loop-stop _ _ (items.turn-item _ _ _ _ _ (so c.loop-p.row) _ _ (sym (rw c.if-branch.false at c.in_ok-eat.ensures.ended)) (paths.check-as _ _ _ c.last_kind.ensures (sym (rw c.if-branch-2.false at c.in_ok-check.ensures.ended))) (sym c.in_ok-link.ensures.ended) ∙ sym (rw c.in-Break.is at c.in_ok-longer.ensures.ended)))
 
 pub type_last-returns-in_err-link-clause-ended : goal.type_last-returns-in_err-link-clause-ended
 type_last-returns-in_err-link-clause-ended t c = exits c.type_last_item.new.p _ _ c.from_residual.ensures (sym (paths.last-failed _ _ _ _ _ _ (sym c.in_err-link.ensures.ended)))
@@ -181,7 +181,7 @@ pub type_table-returns-in_err-bump-clause-ended : goal.type_table-returns-in_err
 type_table-returns-in_err-bump-clause-ended t c = exits c.bump.new.self _ _ c.from_residual.ensures (sym (paths.table-spent _ _ _ _ _ (sym c.in_err-bump.ensures.ended)))
 
 pub type_table-returns-in_err-items-clause-ended : goal.type_table-returns-in_err-items-clause-ended
-type_table-returns-in_err-items-clause-ended t c = exits c.type_items.new.p _ _ c.from_residual-in_err-items.ensures (sym (paths.table-failed _ _ _ _ _ (sym c.in_ok-bump.ensures.ended) (sym c.in_err-items.ensures.ended)))
+type_table-returns-in_err-items-clause-ended t c = exits c.type_items_of.new.p _ _ c.from_residual-in_err-items.ensures (sym (paths.table-failed _ _ _ _ _ (sym c.in_ok-bump.ensures.ended) (sym c.in_err-items.ensures.ended)))
 
 pub type_table-returns-clause-ended : goal.type_table-returns-clause-ended
 type_table-returns-clause-ended t c = c.close.ensures.ended ∙ sym (paths.table_on _ _ _ _ _ (sym c.in_ok-bump.ensures.ended) (sym c.in_ok-items.ensures.ended) (c.is_some.ensures ∙ items.is-ended-is-some _) c.flagged-flags.ensures)

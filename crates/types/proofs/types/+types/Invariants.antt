@@ -46,8 +46,8 @@ decreases-type_last_item l = 10 * l.depth + 6
 abbrev pub decreases-type_last : goal.decreases-type_last
 decreases-type_last l = 10 * l.depth + 7
 
-abbrev pub decreases-type_items : goal.decreases-type_items
-decreases-type_items l = 10 * l.depth + 8
+abbrev pub decreases-type_items_of : goal.decreases-type_items_of
+decreases-type_items_of l = 10 * l.depth + 8
 
 abbrev pub decreases-type_table : goal.decreases-type_table
 decreases-type_table l = 10 * l.depth + 9
@@ -63,14 +63,14 @@ abbrev part : Sheet → ℕ → Turn Kids
 part e depth = union_turn (sheet_of e) (atoms (sheet_of e) depth)
 
 -- going on from here gives what going on from the start gives
-abbrev pub invariant-type_items-loop-p : goal.invariant-type_items-loop-p
-invariant-type_items-loop-p l = record {
+abbrev pub invariant-type_items_of-loop-p : goal.invariant-type_items_of-loop-p
+invariant-type_items_of-loop-p l = record {
   rest : run (iterate (sheet_of l.sheet) (turn l.sheet l.depth (type_rule l.rule) l.end) (so l.initial.row)) l.initial.p ≡ run (iterate (sheet_of l.sheet) (turn l.sheet l.depth (type_rule l.rule) l.end) (so l.row)) l.p;
   lent : SameErrors l.initial.p l.p;
 }
 
-abbrev pub decreases-type_items-loop-p : goal.decreases-type_items-loop-p
-decreases-type_items-loop-p l = count l.sheet.tokens.now - l.p.state.at
+abbrev pub decreases-type_items_of-loop-p : goal.decreases-type_items_of-loop-p
+decreases-type_items_of-loop-p l = count l.sheet.tokens.now - l.p.state.at
 
 abbrev pub invariant-union_of-loop-p : goal.invariant-union_of-loop-p
 invariant-union_of-loop-p l = record {

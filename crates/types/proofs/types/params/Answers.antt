@@ -7,4 +7,4 @@ pub returns-in_err-expect-clause-ended : goal.returns-in_err-expect-clause-ended
 returns-in_err-expect-clause-ended c = exits c.expect.new.self _ _ c.from_residual.ensures (sym (paths.params-shut _ _ _ _ _ (sym c.in_err-expect.ensures.ended)))
 
 pub returns-clause-ended : goal.returns-clause-ended
-returns-clause-ended c = c.type_items.ensures.ended ∙ sym (paths.params-on _ _ _ _ _ (sym c.in_ok-expect.ensures.ended))
+returns-clause-ended c = c.type_items_of.ensures.ended ∙ sym (paths.params-on _ _ _ _ _ (sym c.in_ok-expect.ensures.ended))
