@@ -93,11 +93,11 @@ class Deriver:
     def checked_type(self, kind, span):
         """The type that a token names after `is` (crates/parts/specs/Steps.antt)."""
         if kind == self.grammar.numbers['kind.Null']:
-            return 'checked.Type', 0
+            return 'Some', 0
         word = self.sheet.text[span['start']:span['end']]
         if kind == self.grammar.numbers['kind.Ident'] and word in self.grammar.types:
-            return 'checked.Type', self.grammar.types[word]
-        return ('checked.Unknown',)
+            return 'Some', self.grammar.types[word]
+        return ('None',)
 
     def value(self, e, settled):
         """What an expression stands for; None where that is open, and a symbol may have an open part."""

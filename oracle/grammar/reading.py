@@ -8,7 +8,7 @@ import os
 import re
 
 SIGNS = ('=', ':', '→', '≡', '≤', '<', '+', '*', '^')        # the weakest first
-MODULES = ('kind', 'node', 'by', 'ranged', 'literals', 'checked', 'trees')                   # what stands before a dot and is no record
+MODULES = ('kind', 'node', 'by', 'literals', 'trees')                   # what stands before a dot and is no record
 RELATIONS = {'Assignable': 'Symbols.antt', 'Compound': 'Derives.antt', 'NoLambda': 'Derives.antt'}       # small ones that productions ask for
 
 # premises: pairs of a premise and its place in the text, in an order in which they can be tried

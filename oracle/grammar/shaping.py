@@ -23,7 +23,7 @@ class Shaper:
         self.functions = {
             '+': operator.add, '*': operator.mul, '^': operator.pow, 'max': max, 'flagged': flagged, 'word32': lambda number: number % 2 ** 32,
             'none': list, 'join': operator.add, 'tree': lambda label, under: [(label, under)],
-            'ranged.Nowhere': lambda: None, 'ranged.At': lambda span: span,
+            'None': lambda: None, 'Some': lambda span: span,
             'is_ended': lambda span: span is not None, 'range_of': lambda span: span or NO_SPAN,
             'span_of': sheet.span, 'start_of': lambda place: sheet.span(place)['start'],
             'function_kind': lambda closure: grammar.numbers['node.Closure' if closure else 'node.Function']}
