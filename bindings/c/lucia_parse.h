@@ -82,7 +82,7 @@ typedef struct lucia_reading {
  * Nothing else is required: any text, any tokens and any lengths get an answer, and every call ends.
  *
  * The call keeps nothing between calls and asks for no memory but stack, so that threads may call it at once, each on buffers of its own.
- * Stack: 176,424 bytes below the caller's frame at the deepest sheet that was found (docs/ORACLE.md); have 300,000 free.
+ * Stack: 85,304 bytes below the caller's frame at the deepest sheet that was found (docs/ORACLE.md); have 300,000 free.
  */
 uint8_t lucia_parse(const uint8_t *text, size_t text_len,
                     const uint32_t *tokens, size_t token_words,
