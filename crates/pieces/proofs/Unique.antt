@@ -1,5 +1,5 @@
 -- No second answer satisfies the contract of `word`. `Post` is the contract as the check reads it from the source. Of the others there is no
--- such lemma: what `read` answers comes from standard input, and `write` and `write_count` answer nothing and change nothing that is lent.
+-- such lemma: how much a reader gives at once, and whether a writer takes what it is given, is theirs to say (docs/UNIQUE.md).
 -- Assumes nothing.
 use mathlib.Core.Path.{◌≡◌, sym, ◌∙◌}
 use Rattle.pieces.proofs.word.Reads as word
